@@ -1,0 +1,13 @@
+//! The 32-bit big-endian words of a datagram, their bit fields, and what it means that a packet
+//! begins with them. Nothing here names a kind of packet.
+#![tactic(auto)]
+
+mod bits;
+mod place;
+#[cfg(test)]
+mod tests;
+mod words;
+
+pub use crate::bits::{bits_of, with_bits};
+pub use crate::place::{NoMemory, Place};
+pub use crate::words::{put_word, word_at};

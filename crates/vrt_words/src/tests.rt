@@ -1,0 +1,19 @@
+use super::*;
+
+#[test]
+fn a_word_has_its_first_byte_highest(rt: HostRuntime) {
+    let mut bytes = [0x49, 0x60, 0, 0x1B, 0, 0, 0, 1, 0];
+    assert_eq!(rt; word_at(&bytes, 0), Some(0x4960_001B));
+    assert_eq!(rt; word_at(&bytes, 1), Some(1));
+    assert_eq!(rt; word_at(&bytes, 2), None);
+    put_word(&mut bytes, 1, 0x6A_621E);
+    assert_eq!(rt; bytes, [0x49, 0x60, 0, 0x1B, 0, 0x6A, 0x62, 0x1E, 0]);
+}
+
+#[test]
+fn a_bit_field_is_read_and_replaced(rt: HostRuntime) {
+    assert_eq!(rt; bits_of(0x4960_001B, 28, 4), 4);
+    assert_eq!(rt; bits_of(0x4960_001B, 0, 16), 27);
+    assert_eq!(rt; with_bits(0x4960_001B, 16, 4, 15), 0x496F_001B);
+    assert_eq!(rt; with_bits(0, 0, 32, u32::MAX), u32::MAX);
+}
