@@ -1,2 +1,3 @@
 pub mod WordLemmas
 pub mod BitLemmas
+pub mod RowLemmas

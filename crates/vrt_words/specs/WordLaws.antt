@@ -1,6 +1,8 @@
 -- Laws of the words of a datagram.
-use Rattle.std.proofs.Common.{◌≡◌, ℕ, zero, suc, ◌+◌, ◌*◌, ◌<◌, ◌≤◌, List, [], ◌∷◌, ◌++◌, length, take, drop, sym, ap, ◌∙◌, arith}
+use Rattle.std.proofs.Common.{◌≡◌, ◌<◌, ◌^◌, ◌/◌, ◌%◌, ℕ, zero, suc, ◌+◌, ◌*◌, ◌<◌, ◌≤◌, List, [], ◌∷◌, ◌++◌, length, take, drop, refl, sym, ap, ◌∙◌, arith}
 use Rattle.std.proofs.lemmas.List.{nil_from_length}
+use Rattle.std.specs.List.{flat_map}
+use Rattle.byteorder.specs.Endian.{big_bytes}
 use Rattle.vrt_words.specs.Words.{word_of, words_of, AreWords, AreBytes}
 
 -- the whole words, and up to three bytes more
@@ -54,3 +56,47 @@ one_spelling (a ∷ b ∷ c ∷ d ∷ xs) (s ∷ t ∷ u ∷ v ∷ ys) p q h k e
     let more = one_spelling xs ys (λ i. p (suc (suc (suc (suc i))))) (λ i. q (suc (suc (suc (suc i))))) (omega arith) (omega arith) rest in
     cc
 one_spelling (a ∷ b ∷ c ∷ d ∷ xs) ys p q h k e = cc
+
+pub AreWords-cons : (x : ℕ) (xs : List ℕ) → x < 2 ^ 32 → AreWords xs → AreWords (x ∷ xs)
+AreWords-cons x xs p q zero = p
+AreWords-cons x xs p q (suc i) = q i
+
+pub AreWords-nil : AreWords []
+AreWords-nil i = omega arith
+
+four_more : (j : ℕ) → 4 * suc j ≡ suc (suc (suc (suc (4 * j))))
+four_more j = omega arith
+
+-- the words of some words and more
+pub words_of-append : (i : ℕ) (xs ys : List ℕ) → length xs ≡ 4 * i → words_of (xs ++ ys) ≡ words_of xs ++ words_of ys
+words_of-append zero [] ys h = refl
+words_of-append (suc i) (a ∷ b ∷ c ∷ d ∷ xs) ys h = ap (λ ws. word_of a b c d ∷ ws) (words_of-append i xs ys (omega arith))
+words_of-append i xs ys h = absurd (omega arith)
+
+pub words_of-take : (i : ℕ) (xs : List ℕ) → words_of (take (4 * i) xs) ≡ take i (words_of xs)
+words_of-take zero xs = refl
+words_of-take (suc i) (a ∷ b ∷ c ∷ d ∷ xs) = rw (four_more i) (ap (λ ws. word_of a b c d ∷ ws) (words_of-take i xs))
+words_of-take (suc i) [] = rw (four_more i) refl
+words_of-take (suc i) (a ∷ []) = rw (four_more i) refl
+words_of-take (suc i) (a ∷ b ∷ []) = rw (four_more i) refl
+words_of-take (suc i) (a ∷ b ∷ c ∷ []) = rw (four_more i) refl
+
+pub words_of-drop : (i : ℕ) (xs : List ℕ) → words_of (drop (4 * i) xs) ≡ drop i (words_of xs)
+words_of-drop zero xs = refl
+words_of-drop (suc i) (a ∷ b ∷ c ∷ d ∷ xs) = rw (four_more i) (words_of-drop i xs)
+words_of-drop (suc i) [] = rw (four_more i) refl
+words_of-drop (suc i) (a ∷ []) = rw (four_more i) refl
+words_of-drop (suc i) (a ∷ b ∷ []) = rw (four_more i) refl
+words_of-drop (suc i) (a ∷ b ∷ c ∷ []) = rw (four_more i) refl
+
+-- the words that are spelled most significant byte first are read again
+pub words_of-spelled : (ws : List ℕ) → AreWords ws → words_of (flat_map (big_bytes 4) ws) ≡ ws
+words_of-spelled [] p = refl
+words_of-spelled (w ∷ ws) p =
+    let fits = p 0 in
+    let same : word_of (w / 16777216 % 256) (w / 65536 % 256) (w / 256 % 256) (w % 256) ≡ w = omega arith in
+    ap (λ x. x ∷ words_of (flat_map (big_bytes 4) ws)) same ∙ ap (λ xs. w ∷ xs) (words_of-spelled ws (λ i. p (suc i)))
+
+pub length-spelled : (ws : List ℕ) → length (flat_map (big_bytes 4) ws) ≡ 4 * length ws
+length-spelled [] = refl
+length-spelled (w ∷ ws) = omega (arith, length-spelled ws)

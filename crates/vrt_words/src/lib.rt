@@ -10,4 +10,4 @@ mod words;
 
 pub use crate::bits::{bits_of, with_bits};
 pub use crate::place::{NoMemory, Place};
-pub use crate::words::{put_word, word_at};
+pub use crate::words::{put_word, put_words, read_words, word_at, word_or_place};

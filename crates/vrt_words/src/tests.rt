@@ -17,3 +17,13 @@ fn a_bit_field_is_read_and_replaced(rt: HostRuntime) {
     assert_eq!(rt; with_bits(0x4960_001B, 16, 4, 15), 0x496F_001B);
     assert_eq!(rt; with_bits(0, 0, 32, u32::MAX), u32::MAX);
 }
+
+#[test]
+fn words_in_a_row_are_read_and_written(rt: HostRuntime) {
+    let mut bytes = [9; 16];
+    put_words(&mut bytes, 1, &[0x0102_0304, 5]);
+    assert_eq!(rt; bytes, [9, 9, 9, 9, 1, 2, 3, 4, 0, 0, 0, 5, 9, 9, 9, 9]);
+    let mut words = [0; 3];
+    read_words(&bytes, 1, &mut words);
+    assert_eq!(rt; words, [0x0102_0304, 5, 0x0909_0909]);
+}

@@ -1,6 +1,7 @@
-ghost use Rattle.std.specs.Prelude.{◌≡◌, ◌+◌, ◌*◌, ◌≤◌, ◌↔◌, length, take, drop, slice_get, slice_set, IsSome, Some};
+ghost use Rattle.std.specs.Prelude.{◌≡◌, ◌+◌, ◌*◌, ◌≤◌, ◌<◌, ◌++◌, ◌↔◌, length, take, drop, slice_get, slice_index, slice_set, IsSome, IfOk, IfErr, Some};
 ghost use Rattle.vrt_words.specs.Words.{AreBytes, words_of};
 
+use crate::place::Place;
 use byteorder::{BigEndian, ByteOrder};
 
 /// The word at `index` of a datagram: the bytes from `4 * index` on, most significant first.
@@ -17,6 +18,17 @@ pub fn word_at(bytes: &[u8], index: usize) -> Option<u32>
     Some(BigEndian::read_u32(&bytes[4 * index..]))
 }
 
+/// The word at `index`, or the place at which the datagram is refused for want of it: `index`, where
+/// fewer words are there.
+#[inline]
+pub fn word_or_place(bytes: &[u8], index: u32) -> Result<u32, Place>
+    ensures word { IfOk result (λ word. (index < length (words_of bytes.now))
+        × (word ≡ slice_index (words_of bytes.now) index)) }
+    ensures missing { IfErr result (λ place. (place.word ≡ index) × (length (words_of bytes.now) ≤ index)) }
+{
+    word_at(bytes, index as usize).ok_or(Place { word: index })
+}
+
 /// Writes `word` at `index`, most significant byte first. All other bytes stay.
 ///
 /// The word is read back from there, and writing what was read there changes no byte.
@@ -30,4 +42,30 @@ pub fn put_word(bytes: &mut [u8], index: usize, word: u32)
         → bytes.new ≡ bytes.old }
 {
     BigEndian::write_u32(&mut bytes[4 * index..], word);
+}
+
+/// Reads consecutive words from `index` on into `into`.
+#[inline]
+pub fn read_words(bytes: &[u8], index: usize, into: &mut [u32])
+    requires { 4 * (index + length into.old) ≤ length bytes.now }
+    ensures { into.new ≡ take (length into.old) (drop index (words_of bytes.now)) }
+{
+    let start = 4 * index;
+    let end = start + 4 * into.len();
+    BigEndian::read_u32_into(&bytes[start..end], into);
+}
+
+/// Writes consecutive words from `index` on. All other bytes stay.
+#[inline]
+pub fn put_words(bytes: &mut [u8], index: usize, words: &[u32])
+    requires { 4 * (index + length words.now) ≤ length bytes.old }
+    ensures words { words_of bytes.new
+        ≡ take index (words_of bytes.old) ++ (words.now ++ drop (index + length words.now) (words_of bytes.old)) }
+    ensures before { take (4 * index) bytes.new ≡ take (4 * index) bytes.old }
+    ensures behind { drop (4 * (index + length words.now)) bytes.new
+        ≡ drop (4 * (index + length words.now)) bytes.old }
+{
+    let start = 4 * index;
+    let end = start + 4 * words.len();
+    BigEndian::write_u32_into(words, &mut bytes[start..end]);
 }

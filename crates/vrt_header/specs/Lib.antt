@@ -1,0 +1,6 @@
+pub mod Profile
+pub mod Header
+pub mod Prologue
+pub mod Steps
+pub mod PrologueLaws
+pub mod Spelling

@@ -1,0 +1,13 @@
+//! The prologue of a packet: its header, stream identifier, class identifier and time stamp, as the
+//! profile of a record allows them (IEEE-ISTO Std 4900-2021, after ANSI/VITA 49.2-2017, section 5.1).
+#![tactic(auto)]
+
+mod header;
+mod profile;
+mod prologue;
+mod spelling;
+
+pub use crate::header::{Header, Kind};
+pub use crate::profile::Profile;
+pub use crate::prologue::{Prologue, read_prologue};
+pub use crate::spelling::write_prologue;
