@@ -1,5 +1,5 @@
 -- Laws of the table of fields.
-use Rattle.std.proofs.Common.{◌≡◌, ℕ, ◌+◌, ◌≤◌, List, [], ◌∷◌, map, sum_by, if◌then◌else◌, ◌==◌, refl, sym, ap, ◌∙◌, lit≤}
+use Rattle.std.proofs.Common.{◌≡◌, ℕ, ◌+◌, ◌≤◌, [], ◌∷◌, map, sum_by, if◌then◌else◌, ◌==◌, refl, sym, ap, ◌∙◌, lit≤}
 use Rattle.vrt_fields.specs.declared.field.Field.{Field}
 use Rattle.vrt_fields.specs.declared.field.Field.TheVariants.{ReferencePoint, Bandwidth, IfReference, RfReference, IfOffset, ReferenceLevel, Gain, SampleRate, TimeAdjustment, Calibration, State, Format}
 use Rattle.vrt_fields.specs.Field.{bit_of, width_of, place_of, fields_in_order}

@@ -1,5 +1,5 @@
 -- The payload format: the rule of its two words, and what they tell.
-use Rattle.std.specs.Prelude.{◌≡◌, ℕ, ◌+◌, ◌≤◌, Bool, ◌==◌, ◌⊎◌}
+use Rattle.std.specs.Prelude.{◌≡◌, ℕ, ◌+◌, ◌≤◌, Bool, ◌==◌, ◌⊎◌, List, [], ◌∷◌}
 use Rattle.vrt_fields.specs.declared.format.PayloadFormat.{PayloadFormat}
 use Rattle.vrt_words.specs.Words.{bits}
 
@@ -41,3 +41,8 @@ format_of first = record { bits = item_size first; packed = is_packed first }
 abbrev pub IsFormatRefused : ℕ → ℕ → ℕ → Type 0
 IsFormatRefused first second place =
     ((place ≡ 0) × ¬ IsFormatFirst first) ⊎ ((place ≡ 1) × IsFormatFirst first × ¬ IsFormatSecond second)
+
+-- the format that a list of two words tells
+abbrev pub IsFormatWords : PayloadFormat → List ℕ → Type 0
+IsFormatWords format (first ∷ second ∷ []) = IsFormat format first second
+IsFormatWords format words = ⊥

@@ -1,6 +1,7 @@
-ghost use Rattle.std.specs.Prelude.{◌≡◌, IfSome, IfNone, IfOk, IfErr, Ok};
+ghost use Rattle.std.specs.Prelude.{◌≡◌, [], ◌∷◌, IfSome, IfNone, IfOk, IfErr, Ok};
 ghost use Rattle.vrt_fields.specs.declared.format.PayloadFormat.{PayloadFormat};
-ghost use Rattle.vrt_fields.specs.Format.{IsFormat, IsFormatFirst, IsFormatRefused, format_of};
+ghost use Rattle.vrt_fields.specs.Format.{IsFormat, IsFormatFirst, IsFormatRefused, IsFormatWords, format_of};
+ghost use Rattle.vrt_words.specs.Begins.{IsRefusedAt};
 
 use vrt_words::{Place, bits_of};
 
@@ -22,7 +23,8 @@ impl PayloadFormat {
         ensures found { IfOk result (λ format. IsFormat format first second) }
         ensures only { (format : PayloadFormat) → IsFormat format first second
             → result ≡ Ok format }
-        ensures refused { IfErr result (λ place. IsFormatRefused first second place.word) }
+        ensures wrong { IfErr result (λ place. IsFormatRefused first second place.word) }
+        ensures refused { IfErr result (λ place. IsRefusedAt IsFormatWords (first ∷ second ∷ []) place.word) }
     {
         let Some(format) = format_of_first(first) else {
             return Err(Place { word: 0 });
