@@ -2,7 +2,7 @@ ghost use Rattle.std.specs.Prelude.{◌≡◌, ◌<◌, ◌≤◌, ◌≢◌, If
 ghost use Rattle.vrt_fields.specs.declared.field.Field.{Field};
 ghost use Rattle.vrt_fields.specs.Field.{bit_of, width_of};
 
-/// A field of a context packet, as ANSI/VITA 49.2 section 9.1.1 lists them under CIF0.
+/// A field of a context packet, of those that ANSI/VITA 49.2 lists under CIF0.
 ///
 /// In a packet the fields stand from the highest bit of CIF0 down.
 #[derive(Clone, Copy, Debug, PartialEq, Eq, Hash)]

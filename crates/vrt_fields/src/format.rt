@@ -15,10 +15,13 @@ pub struct PayloadFormat {
 }
 
 impl PayloadFormat {
-    /// The format that the two words of the field tell, as ANSI/VITA 49.2 section 9.13.3 lays them
-    /// out.
+    /// The format that the two words of the field tell, laid out as the payload format field of
+    /// ANSI/VITA 49.2.
     ///
-    /// `Err` gives the first word that is outside the rule: 0 or 1.
+    /// The first word is in the rule where samples are complex Cartesian and signed fixed point, with
+    /// no repeat, tags or fraction, the item size is from 4 to 16 bits, the packing size equals it,
+    /// and the packing is link-efficient, or any at 8 and 16 bits. The second word is 0. `Err` gives
+    /// the first word that is outside: 0, whatever the second is, or 1.
     pub fn read(first: u32, second: u32) -> Result<PayloadFormat, Place>
         ensures found { IfOk result (λ format. IsFormat format first second) }
         ensures only { (format : PayloadFormat) → IsFormat format first second

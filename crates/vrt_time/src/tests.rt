@@ -18,6 +18,7 @@ fn stamps_are_in_the_order_of_their_moments(rt: HostRuntime) -> Result<(), Fail>
     let early = Stamp::of_picos(1, 5).ok_or("early")?;
     let late = Stamp::of_picos(1, 6).ok_or("late")?;
     let next = Stamp::of_picos(2, 0).ok_or("next")?;
+    stamps_compare_as_moments();
     assert!(rt; early < late);
     assert!(rt; late < next);
     assert!(rt; late.moment() < next.moment());

@@ -1,4 +1,4 @@
--- Stamps and captured samples by their moments.
+-- Laws of stamps and captured samples, by their moments.
 use Rattle.std.proofs.Common.{◌≡◌, ℕ, ◌<◌, ◌≤◌, arith}
 use Rattle.std.proofs.lemmas.Grind.{common_steps}
 use Rattle.std.specs.Ordering.{nat_cmp, ordering_then}
