@@ -1,0 +1,11 @@
+//! The twelve fields of a context packet: their bits in CIF0, their words, and the payload format
+//! that one of them holds.
+#![tactic(auto)]
+
+mod field;
+mod format;
+#[cfg(test)]
+mod tests;
+
+pub use crate::field::Field;
+pub use crate::format::PayloadFormat;
