@@ -1,0 +1,12 @@
+//! Where bytes come from and where they go, and the gate that a stage passes at each turn.
+#![tactic(auto)]
+
+mod failed;
+mod gate;
+mod sink;
+mod source;
+
+pub use crate::failed::Failed;
+pub use crate::gate::{Gate, NoGate};
+pub use crate::sink::Sink;
+pub use crate::source::Source;
