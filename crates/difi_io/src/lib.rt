@@ -5,8 +5,10 @@ mod failed;
 mod gate;
 mod sink;
 mod source;
+mod sure_source;
 
 pub use crate::failed::Failed;
 pub use crate::gate::{Gate, NoGate};
 pub use crate::sink::Sink;
 pub use crate::source::Source;
+pub use crate::sure_source::SureSource;
