@@ -1,2 +1,5 @@
 pub mod Faults
 pub mod Supply
+pub mod Store
+pub mod StoreFits
+pub mod Counted

@@ -19,11 +19,11 @@ impl Model for MemSource {
     ghost Value = { FailingSupply };
 
     ghost view = { λ s. record {
-        left = s.supply.left;
-        piece = s.supply.piece;
-        fails = s.failures.listed.items;
-        calls = s.failures.calls;
-        faults = s.failures.faults
+      left = s.supply.left;
+      piece = s.supply.piece;
+      fails = s.failures.listed.items;
+      calls = s.failures.calls;
+      faults = s.failures.faults;
     } };
 }
 
