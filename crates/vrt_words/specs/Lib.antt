@@ -1,2 +1,4 @@
 pub mod Words
 pub mod Begins
+pub mod WordLaws
+pub mod BeginLaws

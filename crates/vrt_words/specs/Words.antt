@@ -1,6 +1,5 @@
 -- The words of a datagram, and their bit fields.
 use Rattle.std.specs.Prelude.{ℕ, ◌+◌, ◌*◌, ◌/◌, ◌%◌, ◌^◌, ◌<◌, List, [], ◌∷◌, slice_index}
-use Rattle.std.specs.List.{All}
 
 -- four bytes, the first of them the highest
 abbrev pub word_of : ℕ → ℕ → ℕ → ℕ → ℕ
@@ -15,8 +14,9 @@ words_of bytes = []
 abbrev pub bits : ℕ → ℕ → ℕ → ℕ
 bits word low width = word / 2 ^ low % 2 ^ width
 
+-- each is a number of 32 bits, or of 8; past the end of a list an index reads 0
 abbrev pub AreWords : List ℕ → Type 0
-AreWords words = All (λ word. word < 2 ^ 32) words
+AreWords words = (i : ℕ) → slice_index words i < 2 ^ 32
 
 abbrev pub AreBytes : List ℕ → Type 0
-AreBytes bytes = All (λ byte. byte < 2 ^ 8) bytes
+AreBytes bytes = (i : ℕ) → slice_index bytes i < 2 ^ 8

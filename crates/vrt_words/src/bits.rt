@@ -1,5 +1,5 @@
-ghost use Rattle.std.specs.Prelude.{◌≡◌, ◌+◌, ◌*◌, ◌<◌, ◌≤◌, ◌^◌};
-ghost use Rattle.vrt_words.specs.Words.{bits, with_bits as replaced};
+ghost use Rattle.std.specs.Prelude.{◌≡◌, ◌+◌, ◌*◌, ◌/◌, ◌%◌, ◌<◌, ◌≤◌, ◌^◌};
+ghost use Rattle.vrt_words.specs.Words.{bits};
 
 /// The `width` bits of `word` from bit `low` up, as a number. Bit 0 is the least significant.
 #[inline]

@@ -1,5 +1,5 @@
 ghost use Rattle.std.specs.Prelude.{◌≡◌, ◌+◌, ◌*◌, ◌≤◌, ◌↔◌, length, take, drop, slice_get, slice_set, IsSome, Some};
-ghost use Rattle.vrt_words.specs.Words.{words_of};
+ghost use Rattle.vrt_words.specs.Words.{AreBytes, words_of};
 
 use byteorder::{BigEndian, ByteOrder};
 
@@ -26,7 +26,8 @@ pub fn put_word(bytes: &mut [u8], index: usize, word: u32)
     ensures words { words_of bytes.new ≡ slice_set (words_of bytes.old) index word }
     ensures before { take (4 * index) bytes.new ≡ take (4 * index) bytes.old }
     ensures behind { drop (4 * index + 4) bytes.new ≡ drop (4 * index + 4) bytes.old }
-    ensures again { slice_get (words_of bytes.old) index ≡ Some word → bytes.new ≡ bytes.old }
+    ensures again { AreBytes bytes.old → slice_get (words_of bytes.old) index ≡ Some word
+        → bytes.new ≡ bytes.old }
 {
     BigEndian::write_u32(&mut bytes[4 * index..], word);
 }
