@@ -15,7 +15,7 @@ mod sure_source;
 #[cfg(test)]
 mod tests;
 
-pub use crate::failed::{Failed, NoMemory};
+pub use crate::failed::Failed;
 pub use crate::gate::{Gate, NoGate};
 pub use crate::mem_sink::MemSink;
 pub use crate::mem_source::MemSource;

@@ -3,9 +3,10 @@ ghost use Rattle.std.specs.Io.KnownBytes.{Appends, Keeps};
 ghost use Rattle.difi_io.specs.Faults.{HasCause, counted};
 
 use crate::failures::Failures;
-use crate::{Failed, NoMemory, Sink};
+use crate::{Failed, Sink};
 use std::alloc::Global;
 use std::marker::Model;
+use vrt_words::NoMemory;
 
 /// A sink that holds its bytes in memory up to a given number, and of which chosen calls fail. It
 /// tells its bytes.
