@@ -1,5 +1,5 @@
 -- What a contract sees of a source over bytes in memory.
-use Rattle.std.specs.Prelude.{ℕ, List, length, min}
+use Rattle.std.specs.Prelude.{ℕ, List}
 
 -- the bytes left, and how many a read gives at most
 pub record Supply : Type 0 where

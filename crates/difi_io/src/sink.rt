@@ -16,7 +16,7 @@ pub trait Sink {
     /// Takes bytes from the front of `from`, at least one, and tells how many.
     ///
     /// `Failed` comes only where the count of faults rose in this call or stands at its last value.
-    /// No byte is then taken.
+    /// The bytes held, where they are told, are then as before. An `Ok` leaves the count.
     fn write(&mut self, from: &[u8]) -> Result<usize, Failed>
         requires { 0 < length from.now }
         ensures some { IfOk result (λ n. 1 ≤ n) }

@@ -16,7 +16,7 @@ pub trait Source {
     /// Puts the next bytes into the front of `into`, and tells how many: 0 only at the end.
     ///
     /// `Failed` comes only where the count of faults rose in this call or stands at its last value.
-    /// No byte is then taken.
+    /// The bytes left are then as before. An `Ok` leaves the count.
     fn read(&mut self, into: &mut [u8]) -> Result<usize, Failed>
         requires { 0 < length into.old }
         ensures bound { IfOk result (λ n. n ≤ length into.new) }

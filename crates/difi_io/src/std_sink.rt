@@ -38,7 +38,7 @@ impl<W: Write + Drop> Sink for StdSink<W> {
     ghost faults = { λ sink. sink.faults };
 
     /// Writes once and flushes. `Failed` comes where the writer gives an `Err` or takes nothing,
-    /// and where the flush gives an `Err`.
+    /// and where the flush gives an `Err`: the writer may then have taken bytes.
     fn write(&mut self, from: &[u8]) -> Result<usize, Failed>
         requires { 0 < length from.now }
         ensures some { IfOk result (λ n. 1 ≤ n) }

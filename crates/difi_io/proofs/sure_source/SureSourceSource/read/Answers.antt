@@ -1,4 +1,4 @@
-use Rattle.std.proofs.Common.{rules, arith, ◌≡◌, ◌∙◌, sym, ap, ◌<◌, ◌≤◌, take, drop, length, ℕ, ◌+◌, ◌-◌, List, ◌++◌, take-append-drop}
+use Rattle.std.proofs.Common.{arith, ◌≡◌, ◌∙◌, sym, ap, take, drop, length}
 use Rattle.std.proofs.lemmas.Grind.{common_steps}
 use Rattle.difi_io.specs.Supply.{Supply}
 use Rattle.difi_io.proofs.Pieces.{copied_and_left}
