@@ -1,0 +1,6 @@
+pub mod Faults
+pub mod Moves
+pub mod Supply
+pub mod Store
+pub mod StoreFits
+pub mod Counted
