@@ -18,15 +18,21 @@ pub fn word_at(bytes: &[u8], index: usize) -> Option<u32>
     Some(BigEndian::read_u32(&bytes[4 * index..]))
 }
 
-/// The word at `index`, or the place at which the datagram is refused for want of it: `index`, where
-/// fewer words are there.
+/// The word at `index`, or the place at which the datagram is refused for want of it: the number of
+/// its whole words.
 #[inline]
 pub fn word_or_place(bytes: &[u8], index: u32) -> Result<u32, Place>
     ensures word { IfOk result (λ word. (index < length (words_of bytes.now))
         × (word ≡ slice_index (words_of bytes.now) index)) }
-    ensures missing { IfErr result (λ place. (place.word ≡ index) × (length (words_of bytes.now) ≤ index)) }
+    ensures missing { IfErr result (λ place. (place.word ≡ length (words_of bytes.now))
+        × (length (words_of bytes.now) ≤ index)) }
 {
-    word_at(bytes, index as usize).ok_or(Place { word: index })
+    match word_at(bytes, index as usize) {
+        Some(word) => Ok(word),
+        None => Err(Place {
+            word: (bytes.len() / 4) as u32,
+        }),
+    }
 }
 
 /// Writes `word` at `index`, most significant byte first. All other bytes stay.

@@ -1,0 +1,29 @@
+-- Context packets, one line for each position of their words.
+use Rattle.std.specs.Prelude.{◌≡◌, ℕ, ◌+◌, ◌*◌, ◌<◌, ◌≤◌, ◌^◌, ◌==◌, List, length, take, drop, slice_index}
+use Rattle.vrt_words.specs.Words.{bits}
+use Rattle.vrt_header.specs.Profile.{PacketProfile}
+use Rattle.vrt_header.specs.Prologue.{IsPrologue}
+use Rattle.vrt_header.specs.declared.header.Kind.TheVariants.{Context}
+use Rattle.vrt_fields.specs.Format.{IsFormatFirst, IsFormatSecond}
+use Rattle.difi_context.specs.declared.context.ContextRec.{ContextRec}
+
+-- a sample rate in two words: a signed number of 64 bits, in units of 2^-20 Hz, that is at least 1 Hz
+pub record IsRate (high low : ℕ) : Type 0 where
+  pub positive : high < 2 ^ 31
+  pub least : 2 ^ 20 ≤ high * 2 ^ 32 + low
+
+-- CIF0 without its change bit: the twelve fields, and no other
+abbrev pub fields_bits : ℕ
+fields_bits = 0x7BB98000
+
+-- these words, and no others, are a context packet
+pub record IsContext (profile : PacketProfile) (rec : ContextRec) (words : List ℕ) : Type 0 where
+  pub all : length words ≡ 27
+  pub prologue : IsPrologue profile rec.prologue (take 7 words)
+  pub kind : rec.prologue.header.kind ≡ Context
+  pub changed : rec.changed ≡ (bits (slice_index words 7) 31 1 == 1)
+  pub cif0 : bits (slice_index words 7) 0 31 ≡ fields_bits
+  pub fields : rec.fields ≡ drop 8 words
+  pub rate : IsRate (slice_index words 19) (slice_index words 20)
+  pub format_first : IsFormatFirst (slice_index words 25)
+  pub format_second : IsFormatSecond (slice_index words 26)

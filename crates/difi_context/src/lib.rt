@@ -1,0 +1,9 @@
+//! Context packets of a stream: what a converter says of the signal from a stamp on
+//! (IEEE-ISTO Std 4900-2021, standard flow signal context packet).
+#![tactic(auto)]
+
+mod context;
+#[cfg(test)]
+mod tests;
+
+pub use crate::context::{ContextRec, decode};
