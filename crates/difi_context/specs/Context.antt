@@ -1,10 +1,12 @@
 -- Context packets, one line for each position of their words.
-use Rattle.std.specs.Prelude.{◌≡◌, ℕ, ◌+◌, ◌*◌, ◌<◌, ◌≤◌, ◌^◌, ◌==◌, List, length, take, drop, slice_index}
-use Rattle.vrt_words.specs.Words.{bits}
+use Rattle.std.specs.Prelude.{◌≡◌, ℕ, ◌+◌, ◌*◌, ◌<◌, ◌≤◌, ◌^◌, ◌==◌, Bool, true, false, if◌then◌else◌, List, length, take, drop, slice_index}
+use Rattle.vrt_words.specs.Words.{bits, AreWords}
 use Rattle.vrt_header.specs.Profile.{PacketProfile}
 use Rattle.vrt_header.specs.Prologue.{IsPrologue}
 use Rattle.vrt_header.specs.declared.header.Kind.TheVariants.{Context}
 use Rattle.vrt_fields.specs.Format.{IsFormatFirst, IsFormatSecond}
+use Rattle.vrt_fields.specs.Field.{width_of, place_of}
+use Rattle.vrt_fields.specs.declared.field.Field.{Field}
 use Rattle.difi_context.specs.declared.context.ContextRec.{ContextRec}
 
 -- a sample rate in two words: a signed number of 64 bits, in units of 2^-20 Hz, that is at least 1 Hz
@@ -15,6 +17,17 @@ pub record IsRate (high low : ℕ) : Type 0 where
 -- CIF0 without its change bit: the twelve fields, and no other
 abbrev pub fields_bits : ℕ
 fields_bits = 0x7BB98000
+
+-- the value of a field among the words of all: one word, or two as one number
+abbrev pub field_of : List ℕ → Field → ℕ
+field_of fields field =
+    if width_of field == 1 then slice_index fields (place_of field)
+    else slice_index fields (place_of field) * 2 ^ 32 + slice_index fields (place_of field + 1)
+
+-- CIF0 with its change bit
+abbrev pub cif0_of : Bool → ℕ
+cif0_of true = 0xFBB98000
+cif0_of false = 0x7BB98000
 
 -- these words, and no others, are a context packet
 pub record IsContext (profile : PacketProfile) (rec : ContextRec) (words : List ℕ) : Type 0 where
@@ -27,3 +40,14 @@ pub record IsContext (profile : PacketProfile) (rec : ContextRec) (words : List 
   pub rate : IsRate (slice_index words 19) (slice_index words 20)
   pub format_first : IsFormatFirst (slice_index words 25)
   pub format_second : IsFormatSecond (slice_index words 26)
+
+-- the context of some packet under this profile
+pub record IsSpelled (profile : PacketProfile) (rec : ContextRec) : Type 0 where
+  pub words : List ℕ
+  pub are_words : AreWords words
+  pub packet : IsContext profile rec words
+
+-- the context of some packet
+pub record IsInGrammar (rec : ContextRec) : Type 0 where
+  pub profile : PacketProfile
+  pub spelled : IsSpelled profile rec

@@ -1,5 +1,5 @@
 -- Laws of context packets: the words determine them, and they are refused where a step goes wrong.
-use Rattle.std.proofs.Common.{◌≡◌, ℕ, zero, suc, ◌+◌, ◌-◌, ◌*◌, ◌^◌, ◌<◌, ◌≤◌, ◌==◌, Bool, true, false, List, [], ◌∷◌, ◌++◌, length, take, drop, get_or, inl, inr, refl, sym, ap, ◌∙◌, subst, append_assoc, length-append, length-drop, arith}
+use Rattle.std.proofs.Common.{◌≡◌, ℕ, suc, ◌+◌, ◌-◌, ◌*◌, ◌<◌, ◌≤◌, ◌==◌, Bool, true, false, List, [], ◌∷◌, ◌++◌, length, take, drop, get_or, inl, inr, refl, sym, ap, ◌∙◌, subst, append_assoc, length-append, length-drop, arith}
 use Rattle.std.proofs.lemmas.Bool.{cases_lt, false≢true}
 use Rattle.std.proofs.lemmas.List.{take_at, take-append-le, take-take, take_all, get_or-take, get_or-append_right, length-take-le}
 use Rattle.std.proofs.Math.Seq.{take-append-add}
@@ -12,12 +12,12 @@ use Rattle.vrt_header.specs.Header.{IsKind, IsTimed, prologue_words}
 use Rattle.vrt_header.specs.Prologue.{IsPrologue}
 use Rattle.vrt_header.specs.PrologueLaws.{one_prologue}
 use Rattle.vrt_header.specs.declared.header.Kind.{Kind}
-use Rattle.vrt_header.specs.declared.header.Kind.TheVariants.{Data, Context, Version, Control, Cancel, Ack}
+use Rattle.vrt_header.specs.declared.header.Kind.TheVariants.{Context}
 use Rattle.vrt_header.specs.declared.prologue.Prologue.{Prologue}
 use Rattle.vrt_fields.specs.Format.{IsFormatFirst, IsFormatSecond}
 use Rattle.vrt_fields.specs.FormatLaws.{sixteen_bits_first}
 use Rattle.difi_context.specs.Context.{IsRate, IsContext, fields_bits}
-use Rattle.difi_context.specs.Steps.{IsRight, IsRightTo, IsWrongAt, IsBehind}
+use Rattle.difi_context.specs.Steps.{IsRight, IsWrongAt, IsBehind}
 use Rattle.difi_context.specs.declared.context.ContextRec.{ContextRec}
 
 same_context : (a b : ContextRec) → a.prologue ≡ b.prologue → a.changed ≡ b.changed → a.fields ≡ b.fields → a ≡ b

@@ -1,8 +1,8 @@
 -- What is right of the first words of a context behind its prologue, and where that ends.
-use Rattle.std.specs.Prelude.{◌≡◌, ℕ, suc, ◌+◌, ◌*◌, ◌<◌, ◌≤◌, ◌^◌, ◌==◌, List, length, drop, slice_index, ◌≢◌, Bool}
+use Rattle.std.specs.Prelude.{◌≡◌, ℕ, suc, ◌+◌, ◌*◌, ◌<◌, ◌≤◌, ◌^◌, ◌==◌, List, length, slice_index, ◌≢◌, Bool}
 use Rattle.vrt_words.specs.Words.{words_of, bits}
 use Rattle.vrt_fields.specs.Format.{IsFormatFirst, IsFormatSecond}
-use Rattle.difi_context.specs.Context.{IsRate, fields_bits}
+use Rattle.difi_context.specs.Context.{fields_bits}
 
 -- nothing is wrong with the words below k, the prologue aside
 pub record IsRight (words : List ℕ) (k : ℕ) : Type 0 where

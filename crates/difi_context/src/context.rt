@@ -2,7 +2,7 @@ ghost use Rattle.std.specs.Prelude.{◌≡◌, ◌≤◌, ◌<◌, ◌==◌, ◌
 ghost use Rattle.vrt_words.specs.Words.{words_of, bits};
 ghost use Rattle.vrt_words.specs.Begins.{IsDatagram, IsRefused};
 ghost use Rattle.difi_context.specs.declared.context.ContextRec.{ContextRec};
-ghost use Rattle.difi_context.specs.Context.{IsContext};
+ghost use Rattle.difi_context.specs.Context.{IsContext, IsInGrammar, IsSpelled};
 ghost use Rattle.difi_context.specs.Steps.{IsBehind, IsRightTo, IsWrongAt};
 
 use vrt_fields::PayloadFormat;
@@ -13,7 +13,7 @@ use vrt_words::{Place, bits_of, read_words, word_at, word_or_place};
 const WORDS: u32 = 27;
 
 /// CIF0 without its change bit: the twelve fields.
-const FIELDS: u32 = 0x7BB9_8000;
+pub(crate) const FIELDS: u32 = 0x7BB9_8000;
 
 /// A context packet.
 #[derive(Clone, Copy, Debug, PartialEq, Eq)]
@@ -33,6 +33,10 @@ pub fn decode(profile: Profile, bytes: &[u8]) -> Result<ContextRec, Place>
     ensures found { IfOk result (λ rec. IsDatagram (IsContext profile) rec bytes.now) }
     ensures only { (rec : ContextRec) → IsDatagram (IsContext profile) rec bytes.now → result ≡ Ok rec }
     ensures refused { IfErr result (λ place. IsRefused (IsContext profile) bytes.now place.word) }
+
+    // So it can be encoded again, and tells its rate, format and stamp.
+    ensures allowed { IfOk result (IsSpelled profile) }
+    ensures grammar { IfOk result IsInGrammar }
 {
     if !is_context(bytes) {
         return Err(Place { word: 0 });

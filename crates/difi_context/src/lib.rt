@@ -3,7 +3,10 @@
 #![tactic(auto)]
 
 mod context;
+mod encoding;
+mod fields;
 #[cfg(test)]
 mod tests;
 
 pub use crate::context::{ContextRec, decode};
+pub use crate::encoding::encode;

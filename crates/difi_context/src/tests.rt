@@ -1,5 +1,6 @@
 use super::*;
 use std::test::Fail;
+use vrt_fields::Field;
 use vrt_header::{Kind, Profile};
 use vrt_words::{Place, put_word};
 
@@ -19,7 +20,7 @@ fn base() -> [u8; 108] {
 }
 
 #[test]
-fn a_context_is_read_and_cut_ones_are_refused(rt: HostRuntime) -> Result<(), Fail> {
+fn a_context_is_read(rt: HostRuntime) -> Result<(), Fail> {
     let profile = Profile::of(0x6A_621E, 1).ok_or("profile")?;
     let bytes = base();
     let Ok(rec) = decode(profile, &bytes) else {
@@ -28,6 +29,32 @@ fn a_context_is_read_and_cut_ones_are_refused(rt: HostRuntime) -> Result<(), Fai
     assert!(rt; rec.prologue.header.kind == Kind::Context);
     assert!(rt; rec.changed);
     assert_eq!(rt; rec.fields[12], 0x7300_0000);
-    assert!(rt; decode(profile, &bytes[..107]) == Err(Place { word: 26 }));
+    Ok(())
+}
+
+#[test]
+fn a_context_tells_its_fields(rt: HostRuntime) -> Result<(), Fail> {
+    let profile = Profile::of(0x6A_621E, 1).ok_or("profile")?;
+    let bytes = base();
+    let Ok(rec) = decode(profile, &bytes) else {
+        return Err(Fail::from("refused"));
+    };
+    assert_eq!(rt; rec.field(Field::SampleRate), 350_000 << 20);
+    assert_eq!(rt; rec.rate(), 350_000 << 20);
+    assert_eq!(rt; rec.format().bits, 16);
+    assert_eq!(rt; rec.stamp().seconds(), 0x6553_F100);
+    let mut copy = [1; 112];
+    encode(profile, &rec, &mut copy);
+    assert!(rt; copy[..108] == bytes[..]);
+    assert_eq!(rt; copy[108], 1);
+    Ok(())
+}
+
+#[test]
+fn a_datagram_that_ends_early_is_refused_there(rt: HostRuntime) -> Result<(), Fail> {
+    let profile = Profile::of(0x6A_621E, 1).ok_or("profile")?;
+    assert!(rt; decode(profile, &[]) == Err(Place { word: 0 }));
+    let bytes = [0x49, 0x60, 0, 0x1B, 0, 0, 0];
+    assert!(rt; decode(profile, &bytes) == Err(Place { word: 1 }));
     Ok(())
 }

@@ -1,8 +1,7 @@
 -- The words that spell a prologue are one list.
-use Rattle.std.proofs.Common.{◌≡◌, ℕ, suc, ◌+◌, ◌*◌, ◌/◌, ◌%◌, ◌<◌, ◌^◌, ◌≤◌, Bool, true, false, List, [], ◌∷◌, ◌++◌, length, take, drop, get_or, Option, Some, None, refl, sym, ap, ◌∙◌, subst, arith}
-use Rattle.std.proofs.lemmas.List.{drop-drop}
-use Rattle.vrt_words.specs.Words.{bits, AreWords}
-use Rattle.vrt_time.specs.Time.{TimeStamp, stamp_of, fraction_of}
+use Rattle.std.proofs.Common.{◌≡◌, ℕ, ◌/◌, ◌%◌, Bool, true, false, List, [], ◌∷◌, length, take, get_or, Option, Some, None, refl, sym, ap, ◌∙◌, arith}
+use Rattle.vrt_words.specs.Words.{AreWords}
+use Rattle.vrt_time.specs.Time.{TimeStamp, fraction_of}
 use Rattle.vrt_header.specs.Profile.{PacketProfile}
 use Rattle.vrt_header.specs.Header.{prologue_words}
 use Rattle.vrt_header.specs.Prologue.{IsStamped, IsPrologue}

@@ -1,5 +1,5 @@
 -- The header word, one line for each of its fields, and the table of kinds.
-use Rattle.std.specs.Prelude.{◌≡◌, ℕ, ◌+◌, ◌==◌, ◌&&◌, nat_le, Bool, true, false, if◌then◌else◌, List, [], ◌∷◌}
+use Rattle.std.specs.Prelude.{◌≡◌, ℕ, ◌+◌, ◌==◌, ◌&&◌, nat_le, Bool, true, false, [], ◌∷◌}
 use Rattle.std.specs.List.{list_any}
 use Rattle.vrt_words.specs.Words.{bits}
 use Rattle.vrt_header.specs.Profile.{PacketProfile}

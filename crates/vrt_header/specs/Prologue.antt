@@ -1,5 +1,5 @@
 -- The prologue of a packet, one line for each of its positions.
-use Rattle.std.specs.Prelude.{◌≡◌, ℕ, ◌+◌, ◌*◌, ◌<◌, ◌^◌, Bool, true, false, List, length, slice_index, Option, Some, None}
+use Rattle.std.specs.Prelude.{◌≡◌, ℕ, ◌<◌, ◌^◌, Bool, true, false, List, length, slice_index, Option, Some, None}
 use Rattle.vrt_words.specs.Words.{bits}
 use Rattle.vrt_time.specs.Time.{TimeStamp, stamp_of, fraction_of}
 use Rattle.vrt_header.specs.Profile.{PacketProfile}

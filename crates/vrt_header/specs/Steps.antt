@@ -1,5 +1,5 @@
 -- What is right of the first words of a prologue behind its header, and where that ends.
-use Rattle.std.specs.Prelude.{◌≡◌, ℕ, suc, ◌*◌, ◌+◌, ◌<◌, ◌≤◌, ◌^◌, true, List, length, slice_index}
+use Rattle.std.specs.Prelude.{◌≡◌, ℕ, suc, ◌<◌, ◌≤◌, ◌^◌, true, List, length, slice_index}
 use Rattle.vrt_words.specs.Words.{bits}
 use Rattle.vrt_time.specs.Time.{fraction_of}
 use Rattle.vrt_header.specs.Profile.{PacketProfile}

@@ -6,6 +6,8 @@ mod header;
 mod profile;
 mod prologue;
 mod spelling;
+#[cfg(test)]
+mod tests;
 
 pub use crate::header::{Header, Kind};
 pub use crate::profile::Profile;

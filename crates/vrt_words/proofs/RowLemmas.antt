@@ -1,11 +1,10 @@
 -- Words in a row, read and written.
-use Rattle.std.proofs.Common.{◌≡◌, ℕ, zero, suc, ◌+◌, ◌-◌, ◌*◌, ◌<◌, ◌≤◌, List, [], ◌∷◌, ◌++◌, length, take, drop, get_or, slice_get, Some, refl, sym, ap, ◌∙◌, subst, length-take, length-drop, arith}
-use Rattle.std.proofs.lemmas.List.{length-take-le, drop-drop, drop-append-le, drop_at, get_or-take, get_or-drop}
+use Rattle.std.proofs.Common.{◌≡◌, ℕ, ◌+◌, ◌*◌, ◌<◌, ◌≤◌, List, ◌++◌, length, take, drop, get_or, refl, sym, ap, ◌∙◌, length-take, length-drop, arith}
+use Rattle.std.proofs.lemmas.List.{length-take-le, drop-drop, drop_at, get_or-take, get_or-drop}
 use Rattle.std.proofs.lemmas.Grind.{same_number_lists}
 use Rattle.std.proofs.lemmas.Option.{get_or_from_slice_get}
 use Rattle.std.specs.List.{flat_map}
 use Rattle.byteorder.specs.Endian.{big_bytes, big_number, IsRead}
-use Rattle.byteorder.specs.Numbers.{big_from-take}
 use borrow.Rule.Slice.PartMut.{put_mid}
 use Rattle.vrt_words.specs.Words.{words_of, AreWords}
 use Rattle.vrt_words.specs.WordLaws.{length-words_of, words_of-append, words_of-take, words_of-drop, words_of-spelled, length-spelled}

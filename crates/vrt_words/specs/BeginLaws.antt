@@ -1,10 +1,10 @@
 -- Laws of the refused place, for packets of any kind.
-use Rattle.std.proofs.Common.{◌≡◌, ℕ, zero, suc, ◌+◌, ◌-◌, ◌*◌, ◌<◌, ◌≤◌, List, [], ◌∷◌, ◌++◌, length, take, drop, get_or, inl, inr, refl, sym, ap, ◌∙◌, subst, append_assoc, take-append-drop, length-append, length-drop, arith}
+use Rattle.std.proofs.Common.{◌≡◌, ℕ, suc, ◌+◌, ◌-◌, ◌<◌, ◌≤◌, List, ◌++◌, length, take, drop, get_or, inl, inr, sym, ap, ◌∙◌, subst, append_assoc, take-append-drop, length-append, length-drop, arith}
 use Rattle.std.proofs.lemmas.Bool.{cases_order}
 use Rattle.std.proofs.lemmas.List.{length-take-le, take-take, get_or_append_left, get_or-append_right, get_or-take, get_or-drop}
-use Rattle.vrt_words.specs.Words.{words_of, AreWords}
+use Rattle.vrt_words.specs.Words.{AreWords}
 use Rattle.vrt_words.specs.WordLaws.{AreWords-append, AreWords-take, AreWords-drop}
-use Rattle.vrt_words.specs.Begins.{Begins, IsDatagram, IsRefusedAt, IsRefused}
+use Rattle.vrt_words.specs.Begins.{Begins, IsRefusedAt}
 
 -- words are refused at one place
 pub one_place : {V : Type 0} (IsPacket : V → List ℕ → Type 0) (words : List ℕ) (m n : ℕ) → IsRefusedAt IsPacket words m → IsRefusedAt IsPacket words n → m ≡ n

@@ -107,3 +107,9 @@ pub AreWords-test : (xs : List ℕ) → list_all (λ x. nat_lt x (2 ^ 32)) xs �
 AreWords-test [] h i = omega arith
 AreWords-test (x ∷ xs) h zero = ltb-true x (2 ^ 32) (and_parts (nat_lt x (2 ^ 32)) (list_all (λ y. nat_lt y (2 ^ 32)) xs) h).0
 AreWords-test (x ∷ xs) h (suc i) = AreWords-test xs (and_parts (nat_lt x (2 ^ 32)) (list_all (λ y. nat_lt y (2 ^ 32)) xs) h).1 i
+
+pub AreBytes-take : (n : ℕ) (xs : List ℕ) → AreBytes xs → AreBytes (take n xs)
+AreBytes-take zero xs p i = omega arith
+AreBytes-take (suc n) [] p i = omega arith
+AreBytes-take (suc n) (x ∷ xs) p zero = p 0
+AreBytes-take (suc n) (x ∷ xs) p (suc i) = AreBytes-take n xs (λ k. p (suc k)) i

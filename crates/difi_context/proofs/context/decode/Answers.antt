@@ -1,7 +1,7 @@
 -- The prologue's place is that of the context, and so is the place behind it; what is right is the one context.
-use Rattle.std.proofs.Common.{◌≡◌, refl, ap, Ok, arith}
+use Rattle.std.proofs.Common.{refl, ap, Ok, arith}
 use Rattle.vrt_words.specs.Words.{words_of}
-use Rattle.difi_context.specs.declared.context.ContextRec.{ContextRec}
+use Rattle.vrt_words.specs.WordLaws.{words_of-words}
 use Rattle.difi_context.specs.ContextLaws.{front_told, front_refused, behind_refused, behind_found, one_datagram}
 use Rattle.difi_context.proofs.context.decode.Goals as goal
 
@@ -28,3 +28,11 @@ returns-clause-found c =
 
 pub returns-clause-only : goal.returns-clause-only
 returns-clause-only c = λ rec d. ap Ok (one_datagram c.args.profile _ rec c.args.bytes.now (returns-clause-found c) d)
+
+pub returns-clause-allowed : goal.returns-clause-allowed
+returns-clause-allowed c =
+    let d = returns-clause-found c in
+    record { words = words_of c.args.bytes.now; are_words = words_of-words c.args.bytes.now (λ i. omega (arith, c.type_inv.bytes i)); packet = d.packet }
+
+pub returns-clause-grammar : goal.returns-clause-grammar
+returns-clause-grammar c = record { profile = c.args.profile; spelled = returns-clause-allowed c }

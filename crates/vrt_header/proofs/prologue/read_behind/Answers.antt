@@ -1,8 +1,8 @@
 -- The words that are right make the prologue, and the stamp's place is that of the prologue.
-use Rattle.std.proofs.Common.{◌≡◌, ◌/◌, ◌%◌, ◌∙◌, ap, subst, sym, refl, get_or, rules, arith}
+use Rattle.std.proofs.Common.{◌∙◌, ap, subst, sym, refl, get_or}
 use Rattle.std.proofs.lemmas.Result.{err_from_is_err_and}
 use Rattle.vrt_words.specs.Words.{words_of, bits}
-use Rattle.vrt_header.specs.Prologue.{IsClassWord, IsClass, IsStamped}
+use Rattle.vrt_header.specs.Prologue.{IsClassWord, IsClass}
 use Rattle.vrt_header.specs.PrologueLaws.{front_prologue, unstamped_wrong}
 use Rattle.vrt_header.specs.declared.prologue.Prologue.{Prologue}
 use Rattle.vrt_header.proofs.prologue.read_behind.Goals as goal

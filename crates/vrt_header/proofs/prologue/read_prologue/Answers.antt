@@ -1,5 +1,5 @@
 -- What stands behind the header decides, and the words spell one prologue at most.
-use Rattle.std.proofs.Common.{◌≡◌, subst, get_or}
+use Rattle.std.proofs.Common.{subst, get_or}
 use Rattle.vrt_words.specs.Words.{words_of}
 use Rattle.std.proofs.lemmas.Result.{IfErr-weaker}
 use Rattle.vrt_words.specs.Begins.{IsRefusedAt}

@@ -1,0 +1,74 @@
+ghost use Rattle.std.specs.Prelude.{◌≡◌, ◌≤ℤ◌, ◌^◌, pos, slice_index, Some};
+ghost use Rattle.vrt_fields.specs.Field.{place_of};
+ghost use Rattle.vrt_fields.specs.Format.{IsFormat};
+ghost use Rattle.vrt_fields.specs.declared.field.Field.TheVariants.{SampleRate};
+ghost use Rattle.difi_context.specs.Context.{IsInGrammar, field_of};
+
+use crate::context::ContextRec;
+use vrt_fields::{Field, PayloadFormat};
+use vrt_time::Stamp;
+
+impl ContextRec {
+    /// The value of a field: its one word, or its two words as a number of 64 bits.
+    pub fn field(&self, field: Field) -> u64
+        ensures { result ≡ field_of self.now.fields field }
+    {
+        let place = place(field);
+        let first = u64::from(self.fields[place]);
+        if field.width() == 1 {
+            return first;
+        }
+        (first << 32) + u64::from(self.fields[place + 1])
+    }
+
+    /// The sample rate, in units of 2^-20 Hz. It is at least 1 Hz.
+    pub fn rate(&self) -> i64
+        requires { IsInGrammar self.now }
+        ensures rate { result ≡ pos (field_of self.now.fields SampleRate) }
+        ensures least { pos (2 ^ 20) ≤ℤ result }
+    {
+        self.field(Field::SampleRate) as i64
+    }
+
+    /// The payload format of the samples.
+    pub fn format(&self) -> PayloadFormat
+        requires { IsInGrammar self.now }
+        ensures { IsFormat result (slice_index self.now.fields 17) (slice_index self.now.fields 18) }
+    {
+        match PayloadFormat::read(self.fields[17], self.fields[18]) {
+            Ok(format) => format,
+            Err(_) => unreachable!(),
+        }
+    }
+
+    /// The stamp from which on the context is in force.
+    pub fn stamp(&self) -> Stamp
+        requires { IsInGrammar self.now }
+        ensures { self.now.prologue.stamp ≡ Some result }
+    {
+        match self.prologue.stamp {
+            Some(stamp) => stamp,
+            None => unreachable!(),
+        }
+    }
+}
+
+// Where a field begins among the words of all fields.
+fn place(field: Field) -> usize
+    ensures { result ≡ place_of field }
+{
+    match field {
+        Field::ReferencePoint => 0,
+        Field::Bandwidth => 1,
+        Field::IfReference => 3,
+        Field::RfReference => 5,
+        Field::IfOffset => 7,
+        Field::ReferenceLevel => 9,
+        Field::Gain => 10,
+        Field::SampleRate => 11,
+        Field::TimeAdjustment => 13,
+        Field::Calibration => 15,
+        Field::State => 16,
+        Field::Format => 17,
+    }
+}
