@@ -2,3 +2,4 @@ pub mod Words
 pub mod Begins
 pub mod WordLaws
 pub mod BeginLaws
+pub mod Buffer

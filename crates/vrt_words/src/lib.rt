@@ -3,11 +3,13 @@
 #![tactic(auto)]
 
 mod bits;
+mod packet_buf;
 mod place;
 #[cfg(test)]
 mod tests;
 mod words;
 
 pub use crate::bits::{bits_of, with_bits};
+pub use crate::packet_buf::PacketBuf;
 pub use crate::place::{NoMemory, Place};
 pub use crate::words::{put_word, put_words, read_words, word_at, word_or_place};

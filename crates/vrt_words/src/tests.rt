@@ -1,4 +1,5 @@
 use super::*;
+use std::test::Fail;
 
 #[test]
 fn a_word_has_its_first_byte_highest(rt: HostRuntime) {
@@ -26,4 +27,17 @@ fn words_in_a_row_are_read_and_written(rt: HostRuntime) {
     let mut words = [0; 3];
     read_words(&bytes, 1, &mut words);
     assert_eq!(rt; words, [0x0102_0304, 5, 0x0909_0909]);
+}
+
+#[test]
+fn a_buffer_keeps_its_room(rt: HostRuntime) -> Result<(), Fail> {
+    let Ok(mut buf) = PacketBuf::open(rt.alloc(), 43) else {
+        return Err(Fail::from("no memory"));
+    };
+    assert_eq!(rt; buf.room(), 172);
+    assert!(rt; buf.bytes().is_empty());
+    buf.fill(&[7; 32]);
+    assert_eq!(rt; buf.bytes(), [7; 32].as_slice());
+    assert_eq!(rt; buf.room(), 172);
+    Ok(())
 }
