@@ -1,9 +1,9 @@
-ghost use Rattle.std.specs.Prelude.{◌≡◌, ◌≤◌, ◌<◌, ◌*◌, ◌==◌, ◌×◌, ◌↔◌, IsTrue, length, drop, slice_index, IfOk, IfErr, Ok};
+ghost use Rattle.std.specs.Prelude.{◌≡◌, ◌≤◌, ◌<◌, ◌==◌, ◌↔◌, IsTrue, length, slice_index, IfOk, OnOk, IfErr, Ok};
 ghost use Rattle.vrt_words.specs.Words.{words_of, bits};
 ghost use Rattle.vrt_words.specs.Begins.{IsDatagram, IsRefused};
 ghost use Rattle.difi_context.specs.declared.context.ContextRec.{ContextRec};
 ghost use Rattle.difi_context.specs.Context.{IsContext};
-ghost use Rattle.difi_context.specs.Steps.{IsRight, IsWrongAt};
+ghost use Rattle.difi_context.specs.Steps.{IsBehind, IsRightTo, IsWrongAt};
 
 use vrt_fields::PayloadFormat;
 use vrt_header::{Profile, Prologue, read_prologue};
@@ -11,6 +11,9 @@ use vrt_words::{Place, bits_of, read_words, word_at, word_or_place};
 
 /// The words of a context packet.
 const WORDS: u32 = 27;
+
+/// CIF0 without its change bit: the twelve fields.
+const FIELDS: u32 = 0x7BB9_8000;
 
 /// A context packet.
 #[derive(Clone, Copy, Debug, PartialEq, Eq)]
@@ -34,8 +37,21 @@ pub fn decode(profile: Profile, bytes: &[u8]) -> Result<ContextRec, Place>
     if !is_context(bytes) {
         return Err(Place { word: 0 });
     }
-    let prologue = read_prologue(profile, bytes)?;
-    read_behind(prologue, bytes)
+    let prologue = match read_prologue(profile, bytes) {
+        Ok(prologue) => prologue,
+        Err(place) => return Err(place),
+    };
+    let changed = match check_behind(bytes) {
+        Ok(changed) => changed,
+        Err(place) => return Err(place),
+    };
+    let mut fields = [0; 19];
+    read_words(bytes, 8, &mut fields);
+    Ok(ContextRec {
+        prologue,
+        changed,
+        fields,
+    })
 }
 
 // Whether the packet type is that of context packets.
@@ -49,16 +65,11 @@ fn is_context(bytes: &[u8]) -> bool
     }
 }
 
-// The change indicator and the fields behind the prologue of a context.
-fn read_behind(prologue: Prologue, bytes: &[u8]) -> Result<ContextRec, Place>
+// The change indicator, where nothing is wrong behind the prologue of a context.
+fn check_behind(bytes: &[u8]) -> Result<bool, Place>
     requires { 7 ≤ length (words_of bytes.now) }
-    ensures found { IfOk result (λ rec. (rec.prologue ≡ prologue)
-        × (length bytes.now ≡ 108)
-        × IsRight (words_of bytes.now) 27
-        × (rec.changed ≡ (bits (slice_index (words_of bytes.now) 7) 31 1 == 1))
-        × (rec.fields ≡ drop 8 (words_of bytes.now))) }
-    ensures refused { IfErr result (λ place. IsWrongAt (words_of bytes.now) place.word
-        × ((length bytes.now ≡ 108) → place.word < 27)) }
+    ensures found { IfOk result (λ changed. IsBehind changed bytes.now) }
+    ensures refused { IfErr result (λ place. IsWrongAt bytes.now place.word) }
 {
     let changed = changed_of(bytes)?;
     check_rate(bytes)?;
@@ -66,11 +77,53 @@ fn read_behind(prologue: Prologue, bytes: &[u8]) -> Result<ContextRec, Place>
     if bytes.len() != 4 * WORDS as usize {
         return Err(Place { word: WORDS });
     }
-    let mut fields = [0; 19];
-    read_words(bytes, 8, &mut fields);
-    Ok(ContextRec {
-        prologue,
-        changed,
-        fields,
-    })
+    Ok(changed)
+}
+
+// The change indicator in CIF0, where it names the twelve fields.
+fn changed_of(bytes: &[u8]) -> Result<bool, Place>
+    requires { 7 ≤ length (words_of bytes.now) }
+    ensures changed { IfOk result (λ changed. changed ≡ (bits (slice_index (words_of bytes.now) 7) 31 1 == 1)) }
+    ensures right { OnOk result (IsRightTo (words_of bytes.now) 8) }
+    ensures refused { IfErr result (λ place. IsWrongAt bytes.now place.word) }
+{
+    let cif0 = word_or_place(bytes, 7)?;
+    if bits_of(cif0, 0, 31) != FIELDS {
+        return Err(Place { word: 7 });
+    }
+    Ok(bits_of(cif0, 31, 1) == 1)
+}
+
+// Whether the sample rate is at least 1 Hz.
+fn check_rate(bytes: &[u8]) -> Result<(), Place>
+    requires { IsRightTo (words_of bytes.now) 8 }
+    ensures right { OnOk result (IsRightTo (words_of bytes.now) 21) }
+    ensures refused { IfErr result (λ place. IsWrongAt bytes.now place.word) }
+{
+    let high = word_or_place(bytes, 19)?;
+    if high >= 1 << 31 {
+        return Err(Place { word: 19 });
+    }
+    let low = word_or_place(bytes, 20)?;
+    if high == 0 && low < 1 << 20 {
+        return Err(Place { word: 20 });
+    }
+    Ok(())
+}
+
+// Whether the payload format is one of the profile.
+fn check_format(bytes: &[u8]) -> Result<(), Place>
+    requires { IsRightTo (words_of bytes.now) 21 }
+    ensures right { OnOk result (IsRightTo (words_of bytes.now) 27) }
+    ensures refused { IfErr result (λ place. IsWrongAt bytes.now place.word) }
+{
+    let first = word_or_place(bytes, 25)?;
+    if PayloadFormat::read(first, 0).is_err() {
+        return Err(Place { word: 25 });
+    }
+    let second = word_or_place(bytes, 26)?;
+    if second != 0 {
+        return Err(Place { word: 26 });
+    }
+    Ok(())
 }

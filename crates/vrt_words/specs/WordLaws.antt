@@ -1,7 +1,8 @@
 -- Laws of the words of a datagram.
-use Rattle.std.proofs.Common.{◌≡◌, ◌<◌, ◌^◌, ◌/◌, ◌%◌, ℕ, zero, suc, ◌+◌, ◌*◌, ◌<◌, ◌≤◌, List, [], ◌∷◌, ◌++◌, length, take, drop, refl, sym, ap, ◌∙◌, arith}
+use Rattle.std.proofs.Common.{◌≡◌, ◌<◌, ◌^◌, ◌/◌, ◌%◌, ℕ, zero, suc, ◌+◌, ◌*◌, ◌<◌, ◌≤◌, List, [], ◌∷◌, ◌++◌, length, take, drop, refl, sym, ap, ◌∙◌, true, nat_lt, arith}
 use Rattle.std.proofs.lemmas.List.{nil_from_length}
-use Rattle.std.specs.List.{flat_map}
+use Rattle.std.specs.List.{flat_map, list_all}
+use Rattle.std.proofs.lemmas.Bool.{ltb-true, and_parts}
 use Rattle.byteorder.specs.Endian.{big_bytes}
 use Rattle.vrt_words.specs.Words.{word_of, words_of, AreWords, AreBytes}
 
@@ -100,3 +101,9 @@ words_of-spelled (w ∷ ws) p =
 pub length-spelled : (ws : List ℕ) → length (flat_map (big_bytes 4) ws) ≡ 4 * length ws
 length-spelled [] = refl
 length-spelled (w ∷ ws) = omega (arith, length-spelled ws)
+
+-- words that are written out pass a test
+pub AreWords-test : (xs : List ℕ) → list_all (λ x. nat_lt x (2 ^ 32)) xs ≡ true → AreWords xs
+AreWords-test [] h i = omega arith
+AreWords-test (x ∷ xs) h zero = ltb-true x (2 ^ 32) (and_parts (nat_lt x (2 ^ 32)) (list_all (λ y. nat_lt y (2 ^ 32)) xs) h).0
+AreWords-test (x ∷ xs) h (suc i) = AreWords-test xs (and_parts (nat_lt x (2 ^ 32)) (list_all (λ y. nat_lt y (2 ^ 32)) xs) h).1 i
