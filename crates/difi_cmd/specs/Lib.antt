@@ -1,3 +1,4 @@
 pub mod Status
 pub mod Record
+pub mod RecordLaws
 pub mod Lines

@@ -1,4 +1,5 @@
 ghost use Rattle.std.specs.Prelude.{◌≡◌, ◌≤◌, ◌+◌, ◌*◌, ◌↔◌, ℕ, List, length, drop, take, codes, IsTrue, IfSome, IfNone};
+ghost use Rattle.vrt_header.specs.Profile.{IsProfile, profile_of};
 ghost use Rattle.difi_cmd.specs.declared.frames.Head.{Head};
 ghost use Rattle.difi_cmd.specs.Record.{IsHead, IsFrame, HasFrames, IsRecord, IsReadable};
 
@@ -32,8 +33,7 @@ pub(crate) fn head_of(bytes: &[u8]) -> Option<Head>
     if bytes.len() < HEADER || &bytes[..8] != b"DIFIREC1".as_slice() {
         return None;
     }
-    let tsi = u8::try_from(word_at(bytes, 3)?).ok()?;
-    let profile = Profile::of(word_at(bytes, 2)?, tsi)?;
+    let profile = profile_in(word_at(bytes, 2)?, word_at(bytes, 3)?)?;
     let max_words = word_at(bytes, 4)?;
     let routes = word_at(bytes, 9)?;
     if max_words < 43 || max_words > 16_376 || routes > 64 {
@@ -44,6 +44,17 @@ pub(crate) fn head_of(bytes: &[u8]) -> Option<Head>
         max_words,
         routes,
     })
+}
+
+// The profile that the two words of a header give.
+fn profile_in(cid: u32, tsi: u32) -> Option<Profile>
+    ensures found { IfSome result (λ profile. (profile ≡ profile_of cid tsi) × IsProfile profile) }
+    ensures none { IfNone result (¬ IsProfile (profile_of cid tsi)) }
+{
+    match u8::try_from(tsi) {
+        Ok(tsi) => Profile::of(cid, tsi),
+        Err(_) => None,
+    }
 }
 
 /// The datagram of the frame that the bytes begin with, and what stands behind it.
@@ -78,7 +89,9 @@ pub(crate) fn record_of(bytes: &[u8]) -> Option<(Head, &[u8])>
     ensures whole { IfSome result (λ found. HasFrames found.1.now) }
     ensures none { IfNone result (¬ IsReadable bytes.now) }
 {
-    let head = head_of(bytes)?;
+    let Some(head) = head_of(bytes) else {
+        return None;
+    };
     let start = HEADER + 8 * head.routes as usize;
     if start > bytes.len() {
         return None;
