@@ -2,11 +2,18 @@
 //! that it ends with.
 #![tactic(auto)]
 
+mod check;
 mod digits;
 mod frames;
+mod judging;
+mod laws;
 mod lines;
+mod report;
+mod run;
 mod status;
 mod text_buffer;
 mod transfer;
 
+pub use crate::laws::record_has_one_text;
+pub use crate::run::difi_run;
 pub use crate::status::Status;

@@ -60,5 +60,5 @@ returns-clause-text c =
     let inv = c.loop-rest.invariant in
     let some : 1 ≤ c.loop-rest.start = omega (arith, inv.room, decimal_nonempty c.loop-rest.rest inv.fits) in
     written c.loop-rest.start (48 + c.loop-rest.rest) c.loop-rest.into some (omega arith)
-        ∙ ap (λ l. l ++ drop c.loop-rest.start c.loop-rest.into) (sym (decimal_digit c.loop-rest.rest (omega arith)))
-        ∙ sym inv.text
+    ∙ ap (λ l. l ++ drop c.loop-rest.start c.loop-rest.into) (sym (decimal_digit c.loop-rest.rest (omega arith)))
+    ∙ sym inv.text

@@ -9,7 +9,7 @@ invariant-loop-rest l = record {
   within : l.start ≤ 20;
   room : length (decimal l.rest) ≤ l.start;
   fits : l.rest < 2 ^ 64;
-  text : decimal l.fn.number ≡ decimal l.rest ++ drop l.start l.into
+  text : decimal l.fn.number ≡ decimal l.rest ++ drop l.start l.into;
 }
 
 abbrev pub decreases-loop-rest : goal.decreases-loop-rest

@@ -6,7 +6,7 @@ use Rattle.difi_cmd.proofs.frames.are_frames.Given as goal
 abbrev pub invariant-loop-behind : goal.invariant-loop-behind
 invariant-loop-behind l = record {
   whole : HasFrames l.rest → HasFrames l.bytes;
-  only : HasFrames l.bytes → HasFrames l.rest
+  only : HasFrames l.bytes → HasFrames l.rest;
 }
 
 abbrev pub decreases-loop-behind : goal.decreases-loop-behind

@@ -7,7 +7,7 @@ abbrev pub invariant-loop-count : goal.invariant-loop-count
 invariant-loop-count g l = record {
   bytes : Consumes (g.S.Source.left l.initial.source) (g.S.Source.left l.source) l.bytes.items;
   within : length l.bytes.items ≤ 2 ^ 40;
-  same : g.S.Source.faults l.source ≡ g.S.Source.faults l.initial.source
+  same : g.S.Source.faults l.source ≡ g.S.Source.faults l.initial.source;
 }
 
 abbrev pub decreases-loop-count : goal.decreases-loop-count
