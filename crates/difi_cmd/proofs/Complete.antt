@@ -1,11 +1,11 @@
 -- Where no read and no write failed, the bytes decide the status.
-use Rattle.std.proofs.Common.{◌≡◌, ℕ, ◌+◌, ◌≤◌, ◌<◌, List, ◌++◌, length, append-nil, length-append, refl, sym, ap, ◌∙◌, subst, inl, inr, arith}
+use Rattle.std.proofs.Common.{◌≡◌, ℕ, ◌≤◌, ◌<◌, List, ◌++◌, length, append-nil, length-append, refl, sym, ap, ◌∙◌, subst, inl, inr, arith}
 use Rattle.std.specs.Prelude.{◌⊎◌, Option, Some, None, IfSome}
 use Rattle.std.specs.Io.KnownBytes.{Consumes, IsAtEnd}
 use Rattle.difi_cmd.specs.declared.status.Status.{Status}
 use Rattle.difi_cmd.specs.declared.status.Status.TheVariants.{Done, Usage, ReadFault, WriteFault, Memory, BadRecord, TooLong}
 use Rattle.difi_cmd.specs.Record.{IsReadable}
-use Rattle.difi_cmd.specs.Outcome.{most, TakesAll, TakesTooMany, TakesUnreadable, WritesAll, IsVerdict}
+use Rattle.difi_cmd.specs.Outcome.{most, TakesTooMany, TakesUnreadable, WritesAll, IsVerdict}
 
 told_all : (bytes taken : List ℕ) (left : Option (List ℕ)) → Consumes (Some bytes) left taken → IsAtEnd left → taken ≡ bytes
 told_all bytes taken None p e = absurd p

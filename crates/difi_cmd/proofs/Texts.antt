@@ -1,12 +1,12 @@
 -- Texts behind one another, and on their way to a sink.
-use Rattle.std.proofs.Common.{◌≡◌, ℕ, zero, suc, ◌+◌, ◌≤◌, Bool, true, false, List, [], ◌∷◌, ◌++◌, length, take, refl, sym, ap, ◌∙◌, subst, append_assoc, append-nil, length-append, cond, arith, rules}
+use Rattle.std.proofs.Common.{◌≡◌, ℕ, suc, ◌+◌, ◌≤◌, Bool, true, false, List, [], ◌∷◌, ◌++◌, length, take, refl, sym, ap, ◌∙◌, subst, append_assoc, append-nil, length-append, cond, arith}
 use Rattle.std.specs.Prelude.{count_by, Option, Result, Ok, Err, OnOk, OnErr, is_err}
 use Rattle.std.specs.Io.KnownBytes.{Appends}
 use Rattle.std.proofs.KnownBytes.{Appends-trans}
 use Rattle.std.proofs.Math.Seq.{take-append-add}
 use Rattle.std.proofs.lemmas.List.{take-append-le}
 use Rattle.std.proofs.lemmas.List.Sums.{sum_by-append}
-use Rattle.difi_io.specs.Faults.{HasCause, Rose, Rose-later}
+use Rattle.difi_io.specs.Faults.{HasCause, Rose-later}
 use Rattle.difi_cmd.specs.declared.frames.Head.{Head}
 use Rattle.difi_cmd.specs.declared.lines.Judgement.{Judgement}
 use Rattle.difi_cmd.specs.declared.report.Report.{Report}

@@ -1,8 +1,8 @@
 -- Laws of records: the bytes determine the header and the datagrams.
-use Rattle.std.proofs.Common.{◌≡◌, ℕ, ◌+◌, ◌*◌, ◌≤◌, List, [], ◌∷◌, ◌++◌, length, take, drop, refl, sym, ap, ◌∙◌, subst, arith, rules}
+use Rattle.std.proofs.Common.{◌≡◌, ℕ, ◌+◌, ◌*◌, List, [], ◌∷◌, ◌++◌, length, take, drop, refl, sym, ap, ◌∙◌, subst, arith}
 use Rattle.std.proofs.Math.Seq.{take-append_seam, drop-append_seam}
 use Rattle.difi_cmd.specs.declared.frames.Head.{Head}
-use Rattle.difi_cmd.specs.Record.{number_at, IsHead, IsFrame, AreFrames, HasFrames, IsRecord, IsReadable}
+use Rattle.difi_cmd.specs.Record.{IsHead, IsFrame, AreFrames, HasFrames, IsRecord}
 
 -- the front of a list and what stands behind it are determined by the front's length
 same_front : (xs ys us vs : List ℕ) → length xs ≡ length ys → xs ++ us ≡ ys ++ vs → xs ≡ ys

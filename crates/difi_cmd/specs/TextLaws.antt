@@ -1,5 +1,5 @@
 -- A record has one text.
-use Rattle.std.proofs.Common.{◌≡◌, ℕ, ◌*◌, ◌+◌, ◌≤◌, ◌<◌, List, [], ◌∷◌, ◌++◌, length, drop, refl, sym, ap, ◌∙◌, subst, arith}
+use Rattle.std.proofs.Common.{◌≡◌, ℕ, List, [], ◌∷◌, ◌++◌, refl, sym, ap, ◌∙◌, subst, arith}
 use Rattle.vrt_words.specs.Words.{words_of}
 use Rattle.vrt_words.specs.BeginLaws.{one_place}
 use Rattle.difi_context.specs.Context.{IsContext}

@@ -11,6 +11,8 @@ mod lines;
 mod report;
 mod run;
 mod status;
+#[cfg(test)]
+mod tests;
 mod text_buffer;
 mod transfer;
 

@@ -1,5 +1,4 @@
-use Rattle.std.proofs.Common.{◌≡◌, ◌<◌, ◌+◌, length, length-append, length-drop, refl, sym, ap, ◌∙◌, arith, rules, false, []}
-use Rattle.std.proofs.KnownBytes.{Appends-nil}
+use Rattle.std.proofs.Common.{ap, ◌∙◌, arith, false, []}
 use Rattle.difi_cmd.specs.RecordLaws.{HasFrames-behind}
 use Rattle.difi_cmd.proofs.Walk.{Leads-more, Leads-end, Ends, ends, begins, shorter}
 use Rattle.difi_cmd.proofs.check.report.Given as given

@@ -1,4 +1,4 @@
-use Rattle.std.proofs.Common.{rules, arith, length, ap, ◌∙◌}
+use Rattle.std.proofs.Common.{rules, length, ap, ◌∙◌}
 use Rattle.std.specs.Prelude.{◌==◌}
 use Rattle.difi_cmd.specs.RecordLaws.{HasFrames-cons, HasFrames-behind, HasFrames-none, HasFrames-nil}
 use Rattle.difi_cmd.proofs.frames.are_frames.Goals as goal

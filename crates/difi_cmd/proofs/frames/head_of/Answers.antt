@@ -1,4 +1,4 @@
-use Rattle.std.proofs.Common.{◌≡◌, ℕ, get_or, rules, sym, ◌∙◌, ap}
+use Rattle.std.proofs.Common.{◌≡◌, get_or, rules, sym, ◌∙◌, ap}
 use Rattle.std.proofs.lemmas.Option.{get_or_from_slice_get}
 use Rattle.vrt_words.specs.Words.{words_of}
 use Rattle.vrt_header.specs.Profile.{profile_of}

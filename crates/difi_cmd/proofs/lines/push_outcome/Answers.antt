@@ -1,8 +1,8 @@
 -- A text behind a text behind the old one.
-use Rattle.std.proofs.Common.{◌≡◌, ℕ, List, ◌++◌, ap, ◌∙◌, append_assoc}
+use Rattle.std.proofs.Common.{◌++◌, ap, ◌∙◌}
 use Rattle.std.specs.Prelude.{codes}
 use Rattle.std.specs.Fmt.{decimal}
-use Rattle.difi_cmd.specs.Lines.{outcome, hexadecimal}
+use Rattle.difi_cmd.specs.Lines.{hexadecimal}
 use Rattle.difi_cmd.proofs.Texts.{two_behind}
 use Rattle.difi_cmd.proofs.lines.push_outcome.Goals as goal
 

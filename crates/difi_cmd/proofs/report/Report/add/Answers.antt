@@ -1,4 +1,3 @@
-use Rattle.std.proofs.Common.{rules}
 use Rattle.difi_cmd.proofs.Texts.{reporting_more, reporting_sent}
 use Rattle.difi_cmd.proofs.report.Report.add.Goals as goal
 

@@ -1,4 +1,3 @@
-use Rattle.std.proofs.Common.{rules}
 use Rattle.difi_cmd.proofs.Texts.{reporting_last, sent_whole, sent_cut}
 use Rattle.difi_cmd.proofs.report.Report.finish.Goals as goal
 

@@ -1,5 +1,4 @@
 use Rattle.std.proofs.Common.{refl, sym, ap, ◌∙◌}
-use Rattle.difi_cmd.specs.Progress.{IsSent}
 use Rattle.difi_cmd.proofs.Texts.{sent_on, sent_dropped, same_sent}
 use Rattle.difi_cmd.proofs.report.Report.send.Goals as goal
 use Rattle.difi_cmd.proofs.report.Report.send.Goals.{then-not-self, else-not-self}
