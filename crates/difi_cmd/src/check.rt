@@ -22,7 +22,8 @@ pub(crate) fn check<S: Source, K: Sink>(alloc: Global, source: &mut S, sink: &mu
     ensures too_long { result ≡ Status.TooLong →
         TakesTooMany (S.left source.old) (S.left source.new) × Keeps (K.held sink.old) (K.held sink.new) }
     ensures bad_record { (offset : ℕ) → result ≡ Status.BadRecord offset → (offset ≡ 0)
-        × TakesUnreadable (S.left source.old) (S.left source.new) × Keeps (K.held sink.old) (K.held sink.new) }
+        × TakesUnreadable (S.left source.old) (S.left source.new)
+        × Keeps (K.held sink.old) (K.held sink.new) }
     ensures write_fault { result ≡ Status.WriteFault → Rose (K.faults sink.old) (K.faults sink.new)
         × WritesFront (S.left source.old) (S.left source.new) (K.held sink.old) (K.held sink.new) }
     ensures memory { result ≡ Status.Memory → Keeps (K.held sink.old) (K.held sink.new) }

@@ -16,6 +16,6 @@ mod tests;
 mod text_buffer;
 mod transfer;
 
-pub use crate::laws::record_has_one_text;
+pub use crate::laws::bytes_are_one_record;
 pub use crate::run::difi_run;
 pub use crate::status::Status;

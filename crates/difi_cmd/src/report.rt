@@ -46,10 +46,11 @@ impl Report {
         ensures frames { self.new.frames ≡ self.old.frames + 1 }
         ensures counted { self.new.accepted ≤ self.new.frames }
         ensures room { length self.new.text < 65536 }
-        ensures reports { (start : Option (List ℕ)) (before : ℕ) (datagrams : List (List ℕ)) (judgements : List Judgement) →
-            IsReporting start (K.held sink.old) before (K.faults sink.old) head.now self.old datagrams judgements →
-            (judgement : Judgement) × IsReporting start (K.held sink.new) before (K.faults sink.new) head.now self.new
-            (datagrams ++ datagram.now ∷ []) (judgements ++ judgement ∷ []) }
+        ensures reports { (start : Option (List ℕ)) (before : ℕ) (done : List (List ℕ)) (judgements : List Judgement) →
+            IsReporting start (K.held sink.old) before (K.faults sink.old) head.now self.old done judgements →
+            (judgement : Judgement)
+            × IsReporting start (K.held sink.new) before (K.faults sink.new) head.now self.new
+            (done ++ datagram.now ∷ []) (judgements ++ judgement ∷ []) }
     {
         let judgement = judge(head, datagram);
         self.note(judgement);
@@ -95,9 +96,11 @@ impl Report {
     pub fn finish<K: Sink>(&mut self, sink: &mut K) -> Result<(), Failed>
         requires counted { self.old.accepted ≤ self.old.frames }
         requires room { length self.old.text < 65536 }
-        ensures { (start : Option (List ℕ)) (before : ℕ) (head : Head) (datagrams : List (List ℕ)) (judgements : List Judgement) →
-            IsReporting start (K.held sink.old) before (K.faults sink.old) head self.old datagrams judgements →
-            IsFinished result start (K.held sink.new) before (K.faults sink.new) (lines 1 judgements ++ summary judgements) }
+        ensures { (start : Option (List ℕ)) (before : ℕ) (head : Head) (done : List (List ℕ))
+            (judgements : List Judgement) →
+            IsReporting start (K.held sink.old) before (K.faults sink.old) head self.old done judgements →
+            IsFinished result start (K.held sink.new) before (K.faults sink.new)
+            (lines 1 judgements ++ summary judgements) }
     {
         push_counts(&mut self.text, self.frames, self.accepted);
         self.send(sink);

@@ -1,4 +1,4 @@
-ghost use Rattle.std.specs.Prelude.{◌≡◌, ◌⊎◌, ◌↔◌, ℕ, IsTrue, IfSome};
+ghost use Rattle.std.specs.Prelude.{◌≡◌, ◌≢◌, ◌⊎◌, ◌↔◌, ℕ, IsTrue, IfSome};
 ghost use Rattle.std.specs.Io.KnownBytes.{Keeps};
 ghost use Rattle.difi_io.specs.Faults.{Rose};
 ghost use Rattle.difi_cmd.specs.Words.{IsCheckLine};
@@ -22,8 +22,9 @@ pub fn difi_run<R: Threads + Sync, S: Source + Send, K: Sink + Send, G: Gate + S
     sink: &mut K,
     gate: &G,
 ) -> Status
-    // Words that are no line are refused, and nothing is done.
+    // Words that are no line, and no others, are refused, and nothing is done.
     ensures usage { (result ≡ Status.Usage) ↔ ¬ IsCheckLine words.now }
+    ensures line { result ≢ Status.Usage → IsCheckLine words.now }
     ensures untouched { result ≡ Status.Usage → (source.new ≡ source.old) × (sink.new ≡ sink.old) }
 
     // The cause of each other status, and what was written.
@@ -32,7 +33,8 @@ pub fn difi_run<R: Threads + Sync, S: Source + Send, K: Sink + Send, G: Gate + S
     ensures too_long { result ≡ Status.TooLong →
         TakesTooMany (S.left source.old) (S.left source.new) × Keeps (K.held sink.old) (K.held sink.new) }
     ensures bad_record { (offset : ℕ) → result ≡ Status.BadRecord offset → (offset ≡ 0)
-        × TakesUnreadable (S.left source.old) (S.left source.new) × Keeps (K.held sink.old) (K.held sink.new) }
+        × TakesUnreadable (S.left source.old) (S.left source.new)
+        × Keeps (K.held sink.old) (K.held sink.new) }
     ensures write_fault { result ≡ Status.WriteFault → Rose (K.faults sink.old) (K.faults sink.new)
         × WritesFront (S.left source.old) (S.left source.new) (K.held sink.old) (K.held sink.new) }
     ensures memory { result ≡ Status.Memory → Keeps (K.held sink.old) (K.held sink.new) }
