@@ -1,0 +1,9 @@
+pub mod Status
+pub mod Record
+pub mod RecordLaws
+pub mod Lines
+pub mod Text
+pub mod TextLaws
+pub mod Progress
+pub mod Words
+pub mod Outcome
