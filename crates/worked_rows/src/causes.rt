@@ -1,0 +1,49 @@
+//! Faults of the source and the sink at each call.
+
+use crate::records::{BASE, datagram, header, push_frame, run_with};
+use difi_cmd::Status;
+use std::alloc::Global;
+use std::test::Fail;
+
+const TEXT: &str = "frame 1 ok context stream 00000001\nframes 1 ok 1 refused 0\n";
+
+fn one_frame(alloc: Global) -> Result<Vec<u8>, Fail> {
+    let mut record = header(alloc)?;
+    push_frame(&mut record, datagram(alloc, &BASE)?.as_slice())?;
+    Ok(record)
+}
+
+#[test]
+fn a_read_that_fails_is_told_and_nothing_is_written(rt: HostRuntime) -> Result<(), Fail> {
+    let record = one_frame(rt.alloc())?;
+    // 468 bytes in pieces of 100 are five reads, and a sixth tells the end.
+    for call in 1..8 {
+        let outcome = run_with(&rt, rt.alloc(), record.as_slice(), 100, &[call], &[])?;
+        if call <= 6 {
+            assert!(rt; outcome.status == Status::ReadFault);
+            assert!(rt; outcome.text.is_empty());
+        } else {
+            assert!(rt; outcome.status == Status::Done);
+            assert_eq!(rt; outcome.text.as_slice(), TEXT.as_bytes());
+        }
+    }
+    Ok(())
+}
+
+#[test]
+fn a_write_that_fails_is_told_behind_what_was_written(rt: HostRuntime) -> Result<(), Fail> {
+    let record = one_frame(rt.alloc())?;
+    // 59 bytes in pieces of 10 are six writes.
+    for call in 1..9 {
+        let outcome = run_with(&rt, rt.alloc(), record.as_slice(), 10, &[], &[call])?;
+        assert!(rt; TEXT.as_bytes().starts_with(outcome.text.as_slice()));
+        if call <= 6 {
+            assert!(rt; outcome.status == Status::WriteFault);
+            assert!(rt; outcome.text.len() as u64 == 10 * (call - 1));
+        } else {
+            assert!(rt; outcome.status == Status::Done);
+            assert!(rt; outcome.text.len() == TEXT.len());
+        }
+    }
+    Ok(())
+}

@@ -1,0 +1,11 @@
+//! Tests that cross the crates: whole runs of the top call over records in memory.
+#![tactic(auto)]
+
+#[cfg(test)]
+mod causes;
+#[cfg(test)]
+mod places;
+#[cfg(test)]
+mod records;
+#[cfg(test)]
+mod runs;
