@@ -32,7 +32,7 @@ pub replaced : (front row old new words : List ℕ) (n : ℕ) → new ≡ front 
 replaced front row old new words n e same size =
     ap (take n) (e ∙ sym (append_assoc front row old)) ∙ take_at (front ++ row) old n (ap length same ∙ size) ∙ same
 
-AreBytes-take : (n : ℕ) (xs : List ℕ) → AreBytes xs → AreBytes (take n xs)
+pub AreBytes-take : (n : ℕ) (xs : List ℕ) → AreBytes xs → AreBytes (take n xs)
 AreBytes-take zero xs p i = omega arith
 AreBytes-take (suc n) [] p i = omega arith
 AreBytes-take (suc n) (x ∷ xs) p zero = p 0
@@ -44,14 +44,6 @@ pub datagram : {V : Type 0} (IsPacket : V → List ℕ → Type 0) (v : V) (n : 
 datagram IsPacket v n bytes words room size e h =
     let same : words_of (take (4 * n) bytes) ≡ words = words_of-take n bytes ∙ e in
     record { whole = omega (arith, length-take-le (4 * n) bytes room, ap length same); packet = subst (IsPacket v) (sym same) h }
-
--- and they are these bytes
-pub same_bytes : (n : ℕ) (bytes datagram : List ℕ) → AreBytes bytes → AreBytes datagram → 4 * n ≤ length bytes → length datagram ≡ 4 * length (words_of datagram)
-    → length (words_of datagram) ≡ n → take n (words_of bytes) ≡ words_of datagram → take (4 * n) bytes ≡ datagram
-same_bytes n bytes datagram fits fits' room whole size e =
-    let same : words_of (take (4 * n) bytes) ≡ words_of datagram = words_of-take n bytes ∙ e in
-    one_spelling (take (4 * n) bytes) datagram (AreBytes-take (4 * n) bytes fits) fits'
-    (omega (arith, length-take-le (4 * n) bytes room, ap length same)) whole same
 
 cif0_once : (a b : ℕ) → a < 2 ^ 32 → b < 2 ^ 32 → (bits a 31 1 == 1) ≡ (bits b 31 1 == 1) → bits a 0 31 ≡ bits b 0 31 → a ≡ b
 cif0_once a b p q e f = let top = same_bit (bits a 31 1) (bits b 31 1) (omega arith) (omega arith) e in omega arith

@@ -6,11 +6,11 @@ use Rattle.vrt_header.specs.Prologue.{IsPrologue}
 use Rattle.vrt_header.specs.declared.header.Kind.TheVariants.{Version}
 use Rattle.difi_version.specs.declared.version.VersionRec.{VersionRec}
 
--- CIF0 without its change bit: CIF1 follows, and nothing else
+-- CIF0 without its change bit: CIF1 follows (bit 1), and no field of CIF0
 abbrev pub cif1_follows : ℕ
 cif1_follows = 2
 
--- CIF1: the version of the specification, and the version of the maker
+-- CIF1: the specification version (bit 3) and the version word (bit 2), and nothing else
 abbrev pub versions_bits : ℕ
 versions_bits = 12
 

@@ -1,5 +1,7 @@
-//! Version packets of a stream: which versions of the standard and of its own a converter speaks
-//! (an extension context packet after ANSI/VITA 49.2-2017 with the version fields of CIF1).
+//! Version packets of a stream: which version of the specification a converter speaks, and its own.
+//!
+//! Their form is this project's own. It is made after the version packets of IEEE-ISTO Std 4900-2021
+//! and the indicator fields of ANSI/VITA 49.2-2017, and is no statement about them.
 #![tactic(auto)]
 
 mod round_trip;

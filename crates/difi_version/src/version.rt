@@ -11,10 +11,11 @@ use vrt_words::{Place, bits_of, put_words, word_at, word_or_place};
 /// The words of a version packet.
 const WORDS: u32 = 11;
 
-/// The second indicator word follows the first, and no field of the first.
+/// The first indicator word without its change bit: the second follows (bit 1), and no field of the
+/// first.
 const CIF1_FOLLOWS: u32 = 2;
 
-/// The second indicator word: the version of the specification, and the version of the maker.
+/// The second indicator word: the specification version (bit 3) and the version word (bit 2).
 const VERSIONS: u32 = 12;
 
 /// A version packet.

@@ -1,14 +1,13 @@
 -- The bytes in front are those of the packet, and the bytes behind them stay.
-use Rattle.std.proofs.Common.{◌≡◌, ◌+◌, ◌-◌, ◌*◌, ◌++◌, ◌∙◌, ap, sym, subst, take, drop, length, get_or, length-drop, arith}
+use Rattle.std.proofs.Common.{◌≡◌, ◌+◌, ◌-◌, ◌*◌, ◌++◌, ◌∙◌, ap, sym, subst, take, drop, length, length-drop, arith}
 use Rattle.std.proofs.lemmas.List.{length-take, drop-drop}
 use Rattle.std.proofs.lemmas.Slice.{take-put_mid, drop-put_mid}
 use borrow.Rule.Slice.PartMut.{put_mid}
 use Rattle.vrt_words.specs.Words.{words_of}
 use Rattle.vrt_words.specs.Begins.{IsDatagram}
 use Rattle.vrt_words.specs.WordLaws.{AreWords-take}
-use Rattle.vrt_header.specs.Header.{prologue_words}
 use Rattle.difi_data.specs.Data.{IsData, packet_of}
-use Rattle.difi_data.specs.DataLaws.{data_timed}
+use Rattle.difi_data.specs.DataLaws.{seven_words}
 use Rattle.difi_data.proofs.Spelling.{payload_size, row_datagram, one_datagram, AreBytes-take}
 use Rattle.difi_data.proofs.packet.encode.Goals as goal
 
@@ -34,35 +33,23 @@ copy_from_slice-requires c =
     let mid = c.write_prologue.new.into in
     omega (arith, payload_size c.args.profile (packet_of c.args.rec.now) s.0 s.2, c.from-size.ensures, length-take (4 * c.from-size.result - 28) (drop 28 mid), length-drop 28 mid)
 
--- the prologue takes seven words
-seven : (c : goal.After-slice_known-3-1) → c.write_prologue.result ≡ 7
-seven c =
-    let s = c.requires.spelled in
-    let p = c.args.rec.now.prologue in
-    c.write_prologue.ensures.length
-    ∙ ap prologue_words (data_timed c.args.profile.tsi p.header.kind p.header.timed (get_or (take 7 s.0) 0 0) s.2.prologue.header.time s.2.kind)
-
--- what is written in a row
-row : (c : goal.After-slice_known-3-1) → take (4 * c.from-size.result) (put_mid 28 (4 * c.from-size.result - 28) c.write_prologue.new.into c.copy_from_slice.new.self)
-    ≡ take 28 c.write_prologue.new.into ++ c.args.rec.now.payload.now
-row c =
-    let s = c.requires.spelled in
-    let n = 4 * c.from-size.result in
-    let mid = c.write_prologue.new.into in
-    let size = payload_size c.args.profile (packet_of c.args.rec.now) s.0 s.2 in
-    take-put_mid 28 (n - 28) mid c.copy_from_slice.new.self n (omega (arith, size, c.from-size.ensures, ap length c.copy_from_slice.ensures.after))
-    (omega (arith, size, c.from-size.ensures, c.write_prologue.auto.into))
-    ∙ ap (λ xs. take 28 mid ++ xs) c.copy_from_slice.ensures.after
-
 pub returns-clause-packet : goal.returns-clause-packet
 returns-clause-packet c =
     let s = c.requires.spelled in
+    let profile = c.args.profile in
     let packet = packet_of c.args.rec.now in
+    let n = 4 * c.from-size.result in
     let mid = c.write_prologue.new.into in
+    let size = payload_size profile packet s.0 s.2 in
+    let row : take n (put_mid 28 (n - 28) mid c.copy_from_slice.new.self) ≡ take 28 mid ++ packet.payload =
+    take-put_mid 28 (n - 28) mid c.copy_from_slice.new.self n (omega (arith, size, c.from-size.ensures, ap length c.copy_from_slice.ensures.after))
+    (omega (arith, size, c.from-size.ensures, c.write_prologue.auto.into))
+    ∙ ap (λ xs. take 28 mid ++ xs) c.copy_from_slice.ensures.after in
+    let seven : c.write_prologue.result ≡ 7 =
+    c.write_prologue.ensures.length ∙ sym s.2.prologue.all ∙ seven_words profile packet.prologue (take 7 s.0) s.2.prologue s.2.kind in
     let front : take 7 (words_of mid) ≡ take 7 s.0 =
-    ap (λ n. take n (words_of mid)) (sym (seven c)) ∙ c.write_prologue.ensures.again (take 7 s.0) (AreWords-take 7 s.0 s.1) s.2.prologue in
-    subst (IsDatagram (IsData c.args.profile) packet) (sym (row c))
-    (row_datagram c.args.profile packet mid s.0 s.2 (omega (arith, payload_size c.args.profile packet s.0 s.2, c.write_prologue.auto.into)) front)
+    ap (λ k. take k (words_of mid)) (sym seven) ∙ c.write_prologue.ensures.again (take 7 s.0) (AreWords-take 7 s.0 s.1) s.2.prologue in
+    subst (IsDatagram (IsData profile) packet) (sym row) (row_datagram profile packet mid s.0 s.2 (omega (arith, size, c.write_prologue.auto.into)) front)
 
 pub returns-clause-again : goal.returns-clause-again
 returns-clause-again c = λ bytes fits h.
@@ -76,7 +63,9 @@ returns-clause-behind c =
     let n = 4 * c.from-size.result in
     let mid = c.write_prologue.new.into in
     let size = payload_size c.args.profile (packet_of c.args.rec.now) s.0 s.2 in
-    let kept : drop 28 mid ≡ drop 28 c.args.into.now = subst (λ k. drop (4 * k) mid ≡ drop (4 * k) c.args.into.now) (seven c) c.write_prologue.ensures.behind in
+    let seven : c.write_prologue.result ≡ 7 =
+    c.write_prologue.ensures.length ∙ sym s.2.prologue.all ∙ seven_words c.args.profile c.args.rec.now.prologue (take 7 s.0) s.2.prologue s.2.kind in
+    let kept : drop 28 mid ≡ drop 28 c.args.into.now = subst (λ k. drop (4 * k) mid ≡ drop (4 * k) c.args.into.now) seven c.write_prologue.ensures.behind in
     let e : 28 + (n - 28) ≡ n = omega (arith, size, c.from-size.ensures) in
     drop-put_mid 28 (n - 28) mid c.copy_from_slice.new.self n (omega (arith, e)) (omega (arith, size, c.write_prologue.auto.into))
     (omega (arith, size, c.from-size.ensures, ap length c.copy_from_slice.ensures.after))
