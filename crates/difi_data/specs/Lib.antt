@@ -1,0 +1,3 @@
+pub mod Data
+pub mod Sizes
+pub mod DataLaws

@@ -1,0 +1,21 @@
+-- What the kind's encoder writes is the packet.
+use Rattle.std.proofs.Common.{◌≡◌, sym, subst, take}
+use Rattle.vrt_words.specs.Begins.{IsDatagram}
+use Rattle.difi_packet.specs.Packet.{PacketValue, ContextValue, VersionValue, IsPacket, value_of}
+use Rattle.difi_packet.proofs.encoding.encode.Goals as goal
+
+pub returns-in-Context-clause-packet : goal.returns-in-Context-clause-packet
+returns-in-Context-clause-packet c =
+    let d = c.encode-in-Context.ensures.packet in
+    let p : IsDatagram (IsPacket c.args.profile) (ContextValue c.in-Context.rec) (take 108 c.encode-in-Context.new.into) = record { whole = d.whole; packet = d.packet } in
+    rw c.in-Context.is p
+
+pub returns-in-Context-clause-again : goal.returns-in-Context-clause-again
+returns-in-Context-clause-again c = λ bytes fits d.
+    let p = rw c.in-Context.is at d in
+    c.encode-in-Context.ensures.again bytes fits (record { whole = p.whole; packet = p.packet })
+
+pub returns-in-Version-clause-again : goal.returns-in-Version-clause-again
+returns-in-Version-clause-again c = λ bytes fits d.
+    let p = rw c.in-Version.is at d in
+    c.encode-in-Version.ensures.again bytes fits (record { whole = p.whole; packet = p.packet })

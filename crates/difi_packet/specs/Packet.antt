@@ -1,0 +1,40 @@
+-- Packets of any kind, by cases on the kind.
+use Rattle.std.specs.Prelude.{◌≡◌, ℕ, List, drop}
+use Rattle.vrt_header.specs.Profile.{PacketProfile}
+use Rattle.difi_data.specs.Data.{DataPacket, IsData, packet_of}
+use Rattle.difi_context.specs.Context.{IsContext}
+use Rattle.difi_version.specs.Version.{IsVersion}
+use Rattle.difi_context.specs.declared.context.ContextRec.{ContextRec}
+use Rattle.difi_version.specs.declared.version.VersionRec.{VersionRec}
+use Rattle.difi_packet.specs.declared.packet.Packet.{Packet}
+use Rattle.difi_packet.specs.declared.packet.Packet.TheVariants.{Data, Context, Version}
+
+-- a packet of one of the kinds
+pub data PacketValue : Type 0 where
+  DataValue : (packet : DataPacket) → PacketValue
+  ContextValue : (rec : ContextRec) → PacketValue
+  VersionValue : (rec : VersionRec) → PacketValue
+
+-- the packet that a value of the program stands for, wherever its payload lies
+abbrev pub value_of : Packet → PacketValue
+value_of (Data rec) = DataValue (packet_of rec)
+value_of (Context rec) = ContextValue rec
+value_of (Version rec) = VersionValue rec
+
+-- these words, and no others, are a packet of this kind
+abbrev pub IsPacket : PacketProfile → PacketValue → List ℕ → Type 0
+IsPacket profile (DataValue packet) words = IsData profile packet words
+IsPacket profile (ContextValue rec) words = IsContext profile rec words
+IsPacket profile (VersionValue rec) words = IsVersion profile rec words
+
+-- the words of a packet: a data packet's size is in its header
+abbrev pub size_in_words : PacketValue → ℕ
+size_in_words (DataValue packet) = packet.prologue.header.size
+size_in_words (ContextValue rec) = 27
+size_in_words (VersionValue rec) = 11
+
+-- a payload is all bytes behind the prologue
+abbrev pub IsLentFrom : List ℕ → Packet → Type 0
+IsLentFrom bytes (Data rec) = rec.payload.now ≡ drop 28 bytes
+IsLentFrom bytes (Context rec) = Unit {0}
+IsLentFrom bytes (Version rec) = Unit {0}

@@ -1,0 +1,13 @@
+//! Packets of any kind: the whole grammar of a record's datagrams, and the one place at which a
+//! datagram outside of it is refused (IEEE-ISTO Std 4900-2021, after ANSI/VITA 49.2-2017).
+#![tactic(auto)]
+
+mod encoding;
+mod packet;
+mod round_trip;
+#[cfg(test)]
+mod tests;
+
+pub use crate::encoding::{encode, size_of};
+pub use crate::packet::{Packet, decode};
+pub use crate::round_trip::one_to_one;
