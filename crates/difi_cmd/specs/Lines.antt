@@ -2,8 +2,10 @@
 use Rattle.std.specs.Prelude.{ℕ, suc, ◌-◌, Bool, true, false, List, [], ◌∷◌, ◌++◌, length, count_by, codes}
 use Rattle.std.specs.Fmt.{decimal, digit_glyph}
 use Rattle.vrt_words.specs.Words.{bits}
+use Rattle.difi_cmd.specs.declared.lines.StreamKind.{StreamKind}
+use Rattle.difi_cmd.specs.declared.lines.StreamKind.TheVariants.{Data, Context, Version}
 use Rattle.difi_cmd.specs.declared.lines.Judgement.{Judgement}
-use Rattle.difi_cmd.specs.declared.lines.Judgement.TheVariants.{Context, Refused, TooLarge}
+use Rattle.difi_cmd.specs.declared.lines.Judgement.TheVariants.{Accepted, Refused, TooLarge}
 
 -- eight digits to the base 16, with upper-case letters
 abbrev pub hexadecimal : ℕ → List ℕ
@@ -12,9 +14,15 @@ hexadecimal word = digit_glyph true (bits word 28 4) ∷ digit_glyph true (bits 
     ∷ digit_glyph true (bits word 12 4) ∷ digit_glyph true (bits word 8 4)
     ∷ digit_glyph true (bits word 4 4) ∷ digit_glyph true (bits word 0 4) ∷ []
 
+-- what a line says of an accepted packet in front of its stream
+abbrev pub acceptance : StreamKind → List ℕ
+acceptance Data = codes " ok data stream "
+acceptance Context = codes " ok context stream "
+acceptance Version = codes " ok version stream "
+
 -- what a line says of a datagram
 abbrev pub outcome : Judgement → List ℕ
-outcome (Context stream) = codes " ok context stream " ++ hexadecimal stream
+outcome (Accepted kind stream) = acceptance kind ++ hexadecimal stream
 outcome (Refused word) = codes " refused at word " ++ decimal word
 outcome TooLarge = codes " too large"
 
@@ -28,7 +36,7 @@ lines number [] = []
 lines number (judgement ∷ judgements) = line number judgement ++ lines (suc number) judgements
 
 abbrev pub is_accepted : Judgement → Bool
-is_accepted (Context stream) = true
+is_accepted (Accepted kind stream) = true
 is_accepted (Refused word) = false
 is_accepted TooLarge = false
 

@@ -1,21 +1,27 @@
 -- What check writes of a record: a line for each frame, and a last one.
 use Rattle.std.specs.Prelude.{◌≡◌, ℕ, ◌*◌, ◌<◌, ◌≤◌, List, [], ◌∷◌, ◌++◌, length}
 use Rattle.vrt_words.specs.Begins.{IsDatagram, IsRefused}
-use Rattle.difi_context.specs.Context.{IsContext}
-use Rattle.difi_context.specs.declared.context.ContextRec.{ContextRec}
+use Rattle.difi_packet.specs.Packet.{PacketValue, DataValue, ContextValue, VersionValue, IsPacket}
 use Rattle.difi_cmd.specs.declared.frames.Head.{Head}
 use Rattle.difi_cmd.specs.declared.lines.Judgement.{Judgement}
-use Rattle.difi_cmd.specs.declared.lines.Judgement.TheVariants.{Context, Refused, TooLarge}
+use Rattle.difi_cmd.specs.declared.lines.Judgement.TheVariants.{Accepted, Refused, TooLarge}
+use Rattle.difi_cmd.specs.declared.lines.StreamKind.TheVariants.{Data, Context, Version}
 use Rattle.difi_cmd.specs.Record.{AreFrames, IsRecord}
 use Rattle.difi_cmd.specs.Lines.{lines, summary}
 
--- the datagram of a frame has more words than the header allows, or it is a context packet, or it is refused
+-- a packet of this kind and stream
+abbrev pub accepted : PacketValue → Judgement
+accepted (DataValue packet) = Accepted Data packet.prologue.stream
+accepted (ContextValue rec) = Accepted Context rec.prologue.stream
+accepted (VersionValue rec) = Accepted Version rec.prologue.stream
+
+-- the datagram of a frame has more words than the header allows, or it is a packet, or it is refused
 abbrev pub IsJudged : Head → List ℕ → Judgement → Type 0
-IsJudged head datagram (Context stream) =
+IsJudged head datagram (Accepted kind stream) =
     (length datagram ≤ 4 * head.max_words)
-    × ((rec : ContextRec) × (IsDatagram (IsContext head.profile) rec datagram × (stream ≡ rec.prologue.stream)))
+    × ((value : PacketValue) × (IsDatagram (IsPacket head.profile) value datagram × (Accepted kind stream ≡ accepted value)))
 IsJudged head datagram (Refused word) =
-    (length datagram ≤ 4 * head.max_words) × IsRefused (IsContext head.profile) datagram word
+    (length datagram ≤ 4 * head.max_words) × IsRefused (IsPacket head.profile) datagram word
 IsJudged head datagram TooLarge = 4 * head.max_words < length datagram
 
 -- the judgements stand one for one with the datagrams

@@ -1,28 +1,35 @@
 -- A record has one text.
-use Rattle.std.proofs.Common.{◌≡◌, ℕ, List, [], ◌∷◌, ◌++◌, refl, sym, ap, ◌∙◌, subst, arith}
+use Rattle.std.proofs.Common.{◌≡◌, ℕ, ◌*◌, ◌≤◌, length, List, [], ◌∷◌, ◌++◌, refl, sym, ap, ◌∙◌, subst, arith}
 use Rattle.vrt_words.specs.Words.{words_of}
+use Rattle.vrt_words.specs.Begins.{IsDatagram}
 use Rattle.vrt_words.specs.BeginLaws.{one_place}
-use Rattle.difi_context.specs.Context.{IsContext}
-use Rattle.difi_context.specs.ContextLaws.{one_datagram}
+use Rattle.difi_packet.specs.Packet.{PacketValue, DataValue, ContextValue, VersionValue, IsPacket}
+use Rattle.difi_packet.specs.PacketLaws.{one_packet}
 use Rattle.difi_cmd.specs.declared.frames.Head.{Head}
 use Rattle.difi_cmd.specs.declared.lines.Judgement.{Judgement}
-use Rattle.difi_cmd.specs.declared.lines.Judgement.TheVariants.{Context, Refused, TooLarge}
+use Rattle.difi_cmd.specs.declared.lines.Judgement.TheVariants.{Accepted, Refused, TooLarge}
 use Rattle.difi_cmd.specs.RecordLaws.{one_record}
 use Rattle.difi_cmd.specs.Lines.{lines, summary}
-use Rattle.difi_cmd.specs.Text.{IsJudged, AreJudged, IsText, IsOutput}
+use Rattle.difi_cmd.specs.Text.{IsJudged, AreJudged, IsText, IsOutput, accepted}
+
+-- a datagram that is a packet is judged as one
+pub packet_judged : (head : Head) (datagram : List ℕ) (value : PacketValue) → length datagram ≤ 4 * head.max_words → IsDatagram (IsPacket head.profile) value datagram
+    → IsJudged head datagram (accepted value)
+packet_judged head d (DataValue packet) within h = (within, (DataValue packet, (h, refl)))
+packet_judged head d (ContextValue rec) within h = (within, (ContextValue rec, (h, refl)))
+packet_judged head d (VersionValue rec) within h = (within, (VersionValue rec, (h, refl)))
 
 -- a datagram is judged in one way
 pub one_judgement : (head : Head) (datagram : List ℕ) (j k : Judgement) → IsJudged head datagram j → IsJudged head datagram k → j ≡ k
-one_judgement head d (Context s) (Context t) p q =
-    let same = one_datagram head.profile p.1.0 q.1.0 d p.1.1.0 q.1.1.0 in
-    ap Context (p.1.1.1 ∙ ap (λ r. r.prologue.stream) same ∙ sym q.1.1.1)
-one_judgement head d (Context s) (Refused w) p q = absurd (q.1.no_packet p.1.0 p.1.1.0)
-one_judgement head d (Refused w) (Context t) p q = absurd (p.1.no_packet q.1.0 q.1.1.0)
-one_judgement head d (Refused v) (Refused w) p q = ap Refused (one_place (IsContext head.profile) (words_of d) v w p.1.at q.1.at)
+one_judgement head d (Accepted j s) (Accepted k t) p q =
+    p.1.1.1 ∙ ap accepted (one_packet head.profile p.1.0 q.1.0 (words_of d) p.1.1.0.packet q.1.1.0.packet) ∙ sym q.1.1.1
+one_judgement head d (Accepted j s) (Refused w) p q = absurd (q.1.no_packet p.1.0 p.1.1.0)
+one_judgement head d (Refused w) (Accepted k t) p q = absurd (p.1.no_packet q.1.0 q.1.1.0)
+one_judgement head d (Refused v) (Refused w) p q = ap Refused (one_place (IsPacket head.profile) (words_of d) v w p.1.at q.1.at)
 one_judgement head d TooLarge TooLarge p q = refl
-one_judgement head d (Context s) TooLarge p q = absurd (omega (arith, p.0, q))
+one_judgement head d (Accepted j s) TooLarge p q = absurd (omega (arith, p.0, q))
 one_judgement head d (Refused w) TooLarge p q = absurd (omega (arith, p.0, q))
-one_judgement head d TooLarge (Context t) p q = absurd (omega (arith, q.0, p))
+one_judgement head d TooLarge (Accepted k t) p q = absurd (omega (arith, q.0, p))
 one_judgement head d TooLarge (Refused w) p q = absurd (omega (arith, q.0, p))
 
 pub one_judgements : (head : Head) (ds : List (List ℕ)) (js ks : List Judgement) → AreJudged head ds js → AreJudged head ds ks → js ≡ ks

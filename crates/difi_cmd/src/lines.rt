@@ -1,13 +1,21 @@
 ghost use Rattle.std.specs.Prelude.{◌≡◌, ◌≤◌, ◌+◌, ◌++◌, length};
-ghost use Rattle.difi_cmd.specs.Lines.{line, outcome, counts};
+ghost use Rattle.difi_cmd.specs.Lines.{acceptance, line, outcome, counts};
 
 use crate::text_buffer::TextBuffer;
+
+/// The kinds of packet that converters send.
+#[derive(Clone, Copy, Debug, PartialEq, Eq)]
+pub(crate) enum StreamKind {
+    Data,
+    Context,
+    Version,
+}
 
 /// What is judged of a datagram.
 #[derive(Clone, Copy, Debug, PartialEq, Eq)]
 pub(crate) enum Judgement {
-    /// It is a context packet of this stream.
-    Context { stream: u32 },
+    /// It is a packet of this kind and stream.
+    Accepted { kind: StreamKind, stream: u32 },
     /// It is no packet. The word is where no packet goes on so.
     Refused { word: u32 },
     /// It has more words than the record allows.
@@ -33,8 +41,8 @@ fn push_outcome(out: &mut TextBuffer, judgement: Judgement)
     ensures length { length out.new ≤ length out.old + 37 }
 {
     match judgement {
-        Judgement::Context { stream } => {
-            out.push(b" ok context stream ");
+        Judgement::Accepted { kind, stream } => {
+            out.push(acceptance_of(kind));
             out.push_hexadecimal(stream);
         }
         Judgement::Refused { word } => {
@@ -42,6 +50,18 @@ fn push_outcome(out: &mut TextBuffer, judgement: Judgement)
             out.push_decimal(u64::from(word));
         }
         Judgement::TooLarge => out.push(b" too large"),
+    }
+}
+
+// What a line says of an accepted packet in front of its stream.
+fn acceptance_of(kind: StreamKind) -> &'static [u8]
+    ensures text { result.now ≡ acceptance kind }
+    ensures length { length result.now ≤ 19 }
+{
+    match kind {
+        StreamKind::Data => b" ok data stream ",
+        StreamKind::Context => b" ok context stream ",
+        StreamKind::Version => b" ok version stream ",
     }
 }
 

@@ -71,7 +71,7 @@ impl Report {
         ensures failed { self.new.failed ≡ self.old.failed }
     {
         self.frames += 1;
-        if let Judgement::Context { .. } = judgement {
+        if let Judgement::Accepted { .. } = judgement {
             self.accepted += 1;
         }
         push_line(&mut self.text, self.frames, judgement);

@@ -2,13 +2,14 @@
 use Rattle.std.proofs.Common.{◌++◌, ap, ◌∙◌}
 use Rattle.std.specs.Prelude.{codes}
 use Rattle.std.specs.Fmt.{decimal}
-use Rattle.difi_cmd.specs.Lines.{hexadecimal}
+use Rattle.difi_cmd.specs.Lines.{acceptance, hexadecimal}
 use Rattle.difi_cmd.proofs.Texts.{two_behind}
 use Rattle.difi_cmd.proofs.lines.push_outcome.Goals as goal
 
-pub returns-in-Context-clause-text : goal.returns-in-Context-clause-text
-returns-in-Context-clause-text c =
-    rw c.in-Context.is (two_behind c.args.out.now c.push.new.self _ (codes " ok context stream ") (hexadecimal c.in-Context.stream) c.push.ensures c.push_hexadecimal.ensures)
+pub returns-in-Accepted-clause-text : goal.returns-in-Accepted-clause-text
+returns-in-Accepted-clause-text c =
+    rw c.in-Accepted.is (two_behind c.args.out.now c.push.new.self _ (acceptance c.in-Accepted.kind) (hexadecimal c.in-Accepted.stream)
+    (c.push.ensures ∙ ap (λ t. c.args.out.now ++ t) c.acceptance_of.ensures.text) c.push_hexadecimal.ensures)
 
 pub returns-in-Refused-clause-text : goal.returns-in-Refused-clause-text
 returns-in-Refused-clause-text c =
