@@ -1,0 +1,7 @@
+//! Complex samples in the payload of a data packet, whose items have 4 to 16 bits each and stand
+//! one after another across word boundaries: how many there are, reading them, and writing them.
+#![tactic(auto)]
+
+mod sample;
+
+pub use crate::sample::Sample;
