@@ -1,9 +1,12 @@
 -- Bits of numbers and of bytes, cut and joined.
-use Rattle.std.proofs.Common.{◌≡◌, ℕ, zero, suc, ◌+◌, ◌-◌, ◌*◌, ◌/◌, ◌%◌, ◌^◌, ◌<◌, ◌≤◌, ℤ, pos, ◌-ℤ◌, List, [], ◌∷◌, ◌++◌, length, take, drop, replicate, get_or, flat_map, refl, sym, ap, ap₂, ◌∙◌, suc-add, zero-add, one-add, add_comm, shr-shr, append_assoc, arith}
+use Rattle.std.proofs.Common.{◌≡◌, ℕ, zero, suc, ◌+◌, ◌-◌, ◌*◌, ◌/◌, ◌%◌, ◌^◌, ◌<◌, ◌≤◌, ℤ, pos, ◌-ℤ◌, List, [], ◌∷◌, ◌++◌, length, take, drop, replicate, get_or, flat_map, refl, sym, ap, ap₂, ◌∙◌, suc-add, zero-add, one-add, add_comm, shr-shr, append_assoc, subst, arith}
 use Rattle.std.specs.Int.{bit_at, byte_at, bytes_high_first}
 use Rattle.std.proofs.lemmas.Nat.{shr_high, shr_split, mod-pow-add, pow_pos}
-use Rattle.std.proofs.lemmas.Nat.Bits.{bit_at_cat_low}
-use Rattle.std.proofs.lemmas.List.{length-append, take_at, drop_at}
+use Rattle.std.proofs.lemmas.Nat.Bits.{bit_at_cat_low, bit_at-zero}
+use Rattle.std.proofs.lemmas.List.{length-append, take_at, drop_at, drop_all, take_all, drop-drop, take-take, drop-take, take-append-le, replicate-append-replicate}
+use Rattle.std.proofs.Math.Seq.{take-append-add, drop-cons}
+use Rattle.byteorder.specs.Endian.{big_from}
+use Rattle.byteorder.specs.Numbers.{big_from-lt}
 use Rattle.std.proofs.lemmas.List.Concat.{flat_map-append}
 use Rattle.byteorder.proofs.Bytes.{pow256}
 use Rattle.sample_unpack.specs.Bits.{bits_of, bits_of_bytes, number_of, signed_number_of}
@@ -39,6 +42,11 @@ pub bits_of_joined : (j k a b : ℕ) → b < 2 ^ k → bits_of (j + k) (a * 2 ^ 
 bits_of_joined j k a b h =
     bits_of-add j k (a * 2 ^ k + b) ∙ ap₂ (λ (x y : List ℕ). x ++ y) (ap (bits_of j) (shr_high a k b h)) (bits_of-low k a b)
 
+pub bits_of-zero : (w : ℕ) → bits_of w 0 ≡ replicate w 0
+unfolding bits_of
+bits_of-zero zero = refl
+bits_of-zero (suc w) = ap₂ (λ (b : ℕ) (bs : List ℕ). b ∷ bs) (bit_at-zero w) (bits_of-zero w)
+
 pub number_of-bits_of : (w n : ℕ) → number_of (bits_of w n) ≡ n % 2 ^ w
 unfolding bits_of number_of
 number_of-bits_of zero n = omega arith
@@ -68,3 +76,69 @@ length-bits_of_bytes (x ∷ xs) =
 
 eight_more : (n : ℕ) → 8 * suc n ≡ 8 + 8 * n
 eight_more n = omega arith
+
+pub drop-bits_of_bytes : (n : ℕ) (xs : List ℕ) → bits_of_bytes (drop n xs) ≡ drop (8 * n) (bits_of_bytes xs)
+drop-bits_of_bytes zero xs = refl
+drop-bits_of_bytes (suc n) [] = bits_of_bytes-nil ∙ sym (drop_all (8 * suc n) (bits_of_bytes []) (rw bits_of_bytes-nil (omega arith)))
+drop-bits_of_bytes (suc n) (x ∷ xs) =
+    drop-bits_of_bytes n xs
+    ∙ ap (drop (8 * n)) (sym (drop_at (bits_of 8 x) (bits_of_bytes xs) 8 (length-bits_of 8 x)))
+    ∙ drop-drop (8 * n) 8 (bits_of 8 x ++ bits_of_bytes xs)
+    ∙ ap₂ (λ (k : ℕ) (bs : List ℕ). drop k bs) (sym (eight_more n)) (sym (bits_of_bytes-cons x xs))
+
+pub take-bits_of_bytes : (n : ℕ) (xs : List ℕ) → bits_of_bytes (take n xs) ≡ take (8 * n) (bits_of_bytes xs)
+take-bits_of_bytes zero xs = bits_of_bytes-nil
+take-bits_of_bytes (suc n) [] = bits_of_bytes-nil ∙ sym (take_all (8 * suc n) (bits_of_bytes []) (rw bits_of_bytes-nil (omega arith)) ∙ bits_of_bytes-nil)
+take-bits_of_bytes (suc n) (x ∷ xs) =
+    bits_of_bytes-cons x (take n xs)
+    ∙ ap (λ bs. bits_of 8 x ++ bs) (take-bits_of_bytes n xs)
+    ∙ sym (take-append-add (bits_of 8 x) (bits_of_bytes xs) (8 * n))
+    ∙ ap₂ (λ (k : ℕ) (bs : List ℕ). take k bs) (ap (λ l. l + 8 * n) (length-bits_of 8 x) ∙ sym (eight_more n)) (sym (bits_of_bytes-cons x xs))
+
+byte_at_is : (k n : ℕ) → byte_at k n ≡ n / 2 ^ (8 * k) % 2 ^ 8
+byte_at_is zero n = omega arith
+byte_at_is (suc k) n = ap (λ e. n / e % 256) (pow256 (suc k))
+
+-- the bits of a number that is written as bytes, the highest first
+pub bits_of_written : (k n : ℕ) → bits_of_bytes (bytes_high_first k n) ≡ bits_of (8 * k) n
+unfolding bits_of
+bits_of_written zero n = bits_of_bytes-nil
+bits_of_written (suc k) n =
+    bits_of_bytes-cons (byte_at k n) (bytes_high_first k n)
+    ∙ ap₂ (λ (x y : List ℕ). x ++ y) (ap (bits_of 8) (byte_at_is k n) ∙ bits_of-mod 8 (n / 2 ^ (8 * k))) (bits_of_written k n)
+    ∙ sym (ap (λ w. bits_of w n) (eight_more k) ∙ bits_of-add 8 (8 * k) n)
+
+-- the bits of a number that is read from bytes, the highest first
+pub bits_of_read : (n i : ℕ) (xs : List ℕ) → ((k : ℕ) → get_or xs k 0 < 256) → i + n ≤ length xs → bits_of (8 * n) (big_from i n xs) ≡ bits_of_bytes (take n (drop i xs))
+unfolding bits_of
+bits_of_read zero i xs h l = sym bits_of_bytes-nil
+bits_of_read (suc n) i xs h l =
+    let below : big_from (suc i) n xs < 2 ^ (8 * n) = subst (λ m. big_from (suc i) n xs < m) (pow256 n) (big_from-lt (suc i) n xs h) in
+    ap₂ (λ (w m : ℕ). bits_of w (get_or xs i 0 * m + big_from (suc i) n xs)) (eight_more n) (pow256 n)
+    ∙ bits_of_joined 8 (8 * n) (get_or xs i 0) (big_from (suc i) n xs) below
+    ∙ ap (λ bs. bits_of 8 (get_or xs i 0) ++ bs) (bits_of_read n (suc i) xs h (omega arith))
+    ∙ sym (bits_of_bytes-cons (get_or xs i 0) (take n (drop (suc i) xs)))
+    ∙ ap (λ ys. bits_of_bytes (take (suc n) ys)) (sym (drop-cons xs i 0 (omega arith)))
+
+-- a stretch of a number's bits is what is left of it by a shift
+pub stretch_of : (a k r n : ℕ) → take k (drop a (bits_of (a + k + r) n)) ≡ bits_of k (n / 2 ^ r)
+stretch_of a k r n =
+    ap (λ bs. take k (drop a bs)) (bits_of-add (a + k) r n ∙ ap (λ bs. bs ++ bits_of r n) (bits_of-add a k (n / 2 ^ r)) ∙ append_assoc (bits_of a (n / 2 ^ r / 2 ^ k)) (bits_of k (n / 2 ^ r)) (bits_of r n))
+    ∙ ap (take k) (drop_at (bits_of a (n / 2 ^ r / 2 ^ k)) (bits_of k (n / 2 ^ r) ++ bits_of r n) a (length-bits_of a (n / 2 ^ r / 2 ^ k)))
+    ∙ take_at (bits_of k (n / 2 ^ r)) (bits_of r n) k (length-bits_of k (n / 2 ^ r))
+
+-- a stretch that lies within the first `size` places of a list is the same after the list is cut there and padded
+pub stretch_within : (a k size : ℕ) (xs ys : List ℕ) → a + k ≤ size → a + k ≤ length xs → take k (drop a (take size (xs ++ ys))) ≡ take k (drop a xs)
+stretch_within a k size xs ys h l =
+    sym (drop-take a k (take size (xs ++ ys)))
+    ∙ ap (drop a) (take-take (a + k) size (xs ++ ys) h ∙ take-append-le (a + k) xs ys l)
+    ∙ drop-take a k xs
+
+-- zeros behind bytes are zeros behind their bits
+pub bits_of_bytes-replicate : (n : ℕ) → bits_of_bytes (replicate n 0) ≡ replicate (8 * n) 0
+bits_of_bytes-replicate zero = bits_of_bytes-nil
+bits_of_bytes-replicate (suc n) =
+    bits_of_bytes-cons 0 (replicate n 0)
+    ∙ ap₂ (λ (x y : List ℕ). x ++ y) (bits_of-zero 8) (bits_of_bytes-replicate n)
+    ∙ replicate-append-replicate 8 (8 * n) 0
+    ∙ ap (λ k. replicate k 0) (sym (eight_more n))

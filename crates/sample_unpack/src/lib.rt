@@ -2,6 +2,9 @@
 //! one after another across word boundaries: how many there are, reading them, and writing them.
 #![tactic(auto)]
 
+mod count;
+mod item;
 mod sample;
 
+pub use crate::count::count_of;
 pub use crate::sample::Sample;

@@ -1,0 +1,71 @@
+ghost use Rattle.sample_unpack.specs.Bits.{bits_of, bits_of_bytes, signed_number_of};
+ghost use Rattle.sample_unpack.specs.Samples.{sample_of};
+ghost use Rattle.std.specs.Prelude.{◌≡◌, ◌+◌, ◌*◌, ◌<◌, ◌≤◌, ◌^◌, ◌++◌, length, take, drop, replicate};
+
+use byteorder::{BigEndian, ByteOrder};
+
+use crate::Sample;
+
+/// The number that the `width` bits of `item` spell in two's complement.
+#[inline]
+fn signed(item: u32, width: u32) -> i16
+    requires some { 1 ≤ width }
+    requires most { width ≤ 16 }
+    requires fits { item < 2 ^ width }
+    ensures { result ≡ signed_number_of (bits_of width item) }
+{
+    let top = 1 << (width - 1);
+    ((item ^ top) as i32 - top as i32) as i16
+}
+
+/// The sample that the `2 * width` bits of `items` spell.
+#[inline]
+pub(crate) fn sample_from(items: u32, width: u32) -> Sample
+    requires some { 1 ≤ width }
+    requires most { width ≤ 16 }
+    requires fits { items < 2 ^ (2 * width) }
+    ensures { result ≡ sample_of width (bits_of (2 * width) items) }
+{
+    Sample {
+        i: signed(items >> width, width),
+        q: signed(items & (u32::MAX >> (32 - width)), width),
+    }
+}
+
+/// The number in the last bytes of a payload, fewer than eight, with zeros behind the end.
+#[cold]
+fn last_window(rest: &[u8]) -> u64
+    requires { length rest.now < 8 }
+    ensures { bits_of 64 result ≡ take 64 (bits_of_bytes rest.now ++ replicate 64 0) }
+{
+    let mut last = [0; 8];
+    last[..rest.len()].copy_from_slice(rest);
+    BigEndian::read_u64(&last)
+}
+
+/// The number in the eight bytes from `at` on, with zeros behind the payload's end.
+#[inline]
+fn window_at(payload: &[u8], at: usize) -> u64
+    requires { at ≤ length payload.now }
+    ensures { bits_of 64 result ≡ take 64 (drop (8 * at) (bits_of_bytes payload.now) ++ replicate 64 0) }
+{
+    let rest = &payload[at..];
+    if rest.len() < 8 {
+        return last_window(rest);
+    }
+    BigEndian::read_u64(rest)
+}
+
+/// The two items, of `width` bits each, from bit `offset` of the byte at `at` on.
+#[inline]
+pub(crate) fn items_at(payload: &[u8], at: usize, offset: u32, width: u32) -> u32
+    requires some { 1 ≤ width }
+    requires most { width ≤ 16 }
+    requires offset { offset < 8 }
+    requires within { 8 * at + offset + 2 * width ≤ 8 * length payload.now }
+    ensures fits { result < 2 ^ (2 * width) }
+    ensures items { bits_of (2 * width) result ≡ take (2 * width) (drop (8 * at + offset) (bits_of_bytes payload.now)) }
+{
+    let window = window_at(payload, at);
+    ((window << offset) >> (64 - 2 * width)) as u32
+}
