@@ -1,9 +1,11 @@
 -- What the code computes of items: shifts, masks and a window of eight bytes.
-use Rattle.std.proofs.Common.{◌≡◌, ℕ, zero, suc, ◌+◌, ◌-◌, ◌*◌, ◌/◌, ◌%◌, ◌^◌, ◌<◌, ◌≤◌, ℤ, pos, negsuc, ◌-ℤ◌, List, [], ◌∷◌, ◌++◌, length, take, drop, replicate, get_or, refl, sym, ap, ap₂, ◌∙◌, subst, bit_and, bit_xor, append_assoc, shr-shr, lit<, arith}
+use Rattle.std.proofs.Common.{◌≡◌, ℕ, zero, suc, ◌+◌, ◌-◌, ◌*◌, ◌/◌, ◌%◌, ◌^◌, ◌<◌, ◌≤◌, ℤ, pos, negsuc, ◌-ℤ◌, List, [], ◌∷◌, ◌++◌, length, take, drop, replicate, get_or, refl, sym, ap, ap₂, ◌∙◌, subst, bit_and, bit_xor, append_assoc, shr-shr, lit<, add-sub_of_le, arith}
 use Rattle.std.proofs.lemmas.Nat.{shr_below, and_mask, one_shl, pow_below, xor_lt, shl-shr, field_of, pow_pos}
 use Rattle.std.proofs.lemmas.Nat.Bits.{ones_shr}
 use Rattle.std.proofs.Math.Nat.{pow-le-pow_right, pow-suc}
-use Rattle.std.proofs.lemmas.List.{take_at, take_all, drop_at, drop-drop, length-append, length-drop, length-replicate, take-append-le, drop-append-le, take-take, drop-take}
+use Rattle.std.proofs.lemmas.List.{take_at, take_all, drop_at, drop-drop, length-append, length-drop, length-replicate, take-append-le, get_or-drop, drop-replicate, take-replicate}
+use Rattle.std.proofs.Math.Seq.{take-append-add}
+use Rattle.byteorder.specs.Numbers.{big_from-take}
 use Rattle.byteorder.specs.Endian.{big_from}
 use Rattle.sample_unpack.specs.Bits.{bits_of, bits_of_bytes, signed_number_of}
 use Rattle.sample_unpack.specs.Samples.{sample_of}
@@ -60,8 +62,21 @@ sample_of_items w items =
 -- ---- the window
 
 -- a window of eight bytes, read where they are all there
-pub window_of_read : (rest : List ℕ) (number : ℕ) → ((k : ℕ) → get_or rest k 0 < 256) → 8 ≤ length rest → number ≡ big_from 0 8 rest → bits_of 64 number ≡ take 64 (bits_of_bytes rest)
-window_of_read rest number h l e = ap (bits_of 64) e ∙ bits_of_read 8 0 rest h l ∙ take-bits_of_bytes 8 rest
+pub window_of_read : (payload : List ℕ) (at number : ℕ) → ((k : ℕ) → get_or payload k 0 < 256) → at + 8 ≤ length payload → number ≡ big_from 0 8 (drop at payload) → bits_of 64 number ≡ take 64 (drop (8 * at) (bits_of_bytes payload) ++ replicate 64 0)
+window_of_read payload at number h l e =
+    let there : 64 ≤ length (drop (8 * at) (bits_of_bytes payload)) = omega (arith, length-drop (8 * at) (bits_of_bytes payload), length-bits_of_bytes payload) in
+    ap (bits_of 64) e
+    ∙ bits_of_read 8 0 (drop at payload) (λ k. rw (get_or-drop at payload k 0) (h (at + k))) (omega (arith, length-drop at payload))
+    ∙ take-bits_of_bytes 8 (drop at payload)
+    ∙ ap (take 64) (drop-bits_of_bytes at payload)
+    ∙ sym (take-append-le 64 (drop (8 * at) (bits_of_bytes payload)) (replicate 64 0) there)
+
+-- a buffer of zeros whose front was overwritten
+pub padded : (n : ℕ) (rest : List ℕ) → length rest ≤ n → rest ++ drop (length rest) (replicate n 0) ≡ take n (rest ++ replicate n 0)
+padded n rest l =
+    ap (λ bs. rest ++ bs) (drop-replicate (length rest) n 0 ∙ sym (take-replicate (n - length rest) n 0 (omega arith)))
+    ∙ sym (take-append-add rest (replicate n 0) (n - length rest))
+    ∙ ap (λ k. take k (rest ++ replicate n 0)) (add-sub_of_le l)
 
 zeros_below : (n k : ℕ) → get_or (replicate n 0) k 0 < 256
 zeros_below zero k = lit< tt
@@ -74,9 +89,9 @@ padded_below n (x ∷ rest) h zero = h 0
 padded_below n (x ∷ rest) h (suc k) = padded_below n rest (λ j. h (suc j)) k
 
 -- a window at the end of a payload, with zeros behind it
-pub window_of_last : (rest : List ℕ) (number : ℕ) → ((k : ℕ) → get_or rest k 0 < 256) → number ≡ big_from 0 8 (rest ++ replicate 8 0) → bits_of 64 number ≡ take 64 (bits_of_bytes rest ++ replicate 64 0)
-window_of_last rest number h e =
-    ap (bits_of 64) e
+pub window_of_last : (rest : List ℕ) (number : ℕ) → ((k : ℕ) → get_or rest k 0 < 256) → length rest ≤ 8 → number ≡ big_from 0 8 (rest ++ drop (length rest) (replicate 8 0)) → bits_of 64 number ≡ take 64 (bits_of_bytes rest ++ replicate 64 0)
+window_of_last rest number h l e =
+    ap (bits_of 64) (e ∙ ap (big_from 0 8) (padded 8 rest l) ∙ big_from-take 0 8 8 (rest ++ replicate 8 0) (omega arith))
     ∙ bits_of_read 8 0 (rest ++ replicate 8 0) (padded_below 8 rest h) (omega (arith, length-append rest (replicate 8 0)))
     ∙ take-bits_of_bytes 8 (rest ++ replicate 8 0)
     ∙ ap (take 64) (bits_of_bytes-append rest (replicate 8 0) ∙ ap (λ bs. bits_of_bytes rest ++ bs) (bits_of_bytes-replicate 8))

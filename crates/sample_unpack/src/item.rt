@@ -69,3 +69,21 @@ pub(crate) fn items_at(payload: &[u8], at: usize, offset: u32, width: u32) -> u3
     let window = window_at(payload, at);
     ((window << offset) >> (64 - 2 * width)) as u32
 }
+
+/// The sample of two bytes at `at`.
+#[inline]
+pub(crate) fn half_at(payload: &[u8], at: usize) -> Sample
+    requires { at + 2 ≤ length payload.now }
+    ensures { result ≡ sample_of 8 (drop (8 * at) (bits_of_bytes payload.now)) }
+{
+    sample_from(u32::from(BigEndian::read_u16(&payload[at..])), 8)
+}
+
+/// The sample of two half words at `at`.
+#[inline]
+pub(crate) fn word_at(payload: &[u8], at: usize) -> Sample
+    requires { at + 4 ≤ length payload.now }
+    ensures { result ≡ sample_of 16 (drop (8 * at) (bits_of_bytes payload.now)) }
+{
+    sample_from(BigEndian::read_u32(&payload[at..]), 16)
+}

@@ -5,6 +5,8 @@
 mod count;
 mod item;
 mod sample;
+mod unpack;
 
 pub use crate::count::count_of;
 pub use crate::sample::Sample;
+pub use crate::unpack::unpack_into;
