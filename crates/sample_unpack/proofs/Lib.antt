@@ -1,3 +1,4 @@
 pub mod Bits
 pub mod Signed
 pub mod Items
+pub mod Samples
