@@ -11,6 +11,10 @@ use Rattle.std.proofs.lemmas.List.Concat.{flat_map-append}
 use Rattle.byteorder.proofs.Bytes.{pow256}
 use Rattle.sample_unpack.specs.Bits.{bits_of, bits_of_bytes, number_of, signed_number_of}
 
+pub bits_of_none : (n : ℕ) → bits_of 0 n ≡ []
+unfolding bits_of
+bits_of_none n = refl
+
 pub length-bits_of : (w n : ℕ) → length (bits_of w n) ≡ w
 unfolding bits_of
 length-bits_of zero n = refl

@@ -2,3 +2,4 @@ pub mod Bits
 pub mod Signed
 pub mod Items
 pub mod Samples
+pub mod Packed

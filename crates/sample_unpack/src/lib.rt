@@ -4,9 +4,13 @@
 
 mod count;
 mod item;
+mod pack;
+mod put;
 mod sample;
 mod unpack;
+mod window;
 
 pub use crate::count::count_of;
+pub use crate::pack::pack_into;
 pub use crate::sample::Sample;
 pub use crate::unpack::unpack_into;

@@ -3,7 +3,8 @@ ghost use Rattle.sample_unpack.specs.Samples.{LieWithin, samples_from};
 ghost use Rattle.std.specs.Prelude.{◌≡◌, ◌≤◌, length};
 
 use crate::Sample;
-use crate::item::{half_at, items_at, sample_from, word_at};
+use crate::item::sample_from;
+use crate::window::{half_at, items_at, word_at};
 
 /// Reads samples number `first`, `first + 1` and so on of `payload` into `into`, as many as it has
 /// room for. Their items have `bits` bits each and stand one after another across word boundaries,

@@ -4,7 +4,7 @@ use Rattle.std.proofs.lemmas.Nat.{mod_below, pow_pos}
 use Rattle.sample_unpack.specs.Bits.{bits_of, bits_of_bytes}
 use Rattle.sample_unpack.proofs.Bits.{length-bits_of_bytes}
 use Rattle.sample_unpack.proofs.Items.{shifted, items_in}
-use Rattle.sample_unpack.proofs.item.items_at.Goals as goal
+use Rattle.sample_unpack.proofs.window.items_at.Goals as goal
 
 pub returns-clause-fits : goal.returns-clause-fits
 returns-clause-fits c =

@@ -4,7 +4,7 @@ use Rattle.byteorder.specs.Endian.{big_from}
 use Rattle.sample_unpack.specs.Bits.{bits_of_bytes}
 use Rattle.sample_unpack.proofs.Bits.{drop-bits_of_bytes}
 use Rattle.sample_unpack.proofs.Items.{window_of_read}
-use Rattle.sample_unpack.proofs.item.window_at.Goals as goal
+use Rattle.sample_unpack.proofs.window.window_at.Goals as goal
 
 pub returns-then-rest-lt8 : goal.returns-then-rest-lt8
 returns-then-rest-lt8 c =

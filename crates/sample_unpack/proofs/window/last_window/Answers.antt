@@ -1,7 +1,7 @@
 use Rattle.std.proofs.Common.{◌≡◌, ◌++◌, ◌∙◌, ap, length, drop, replicate, arith}
 use Rattle.byteorder.specs.Endian.{big_from}
 use Rattle.sample_unpack.proofs.Items.{window_of_last}
-use Rattle.sample_unpack.proofs.item.last_window.Goals as goal
+use Rattle.sample_unpack.proofs.window.last_window.Goals as goal
 
 pub returns : goal.returns
 returns c =

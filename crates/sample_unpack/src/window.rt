@@ -1,0 +1,64 @@
+ghost use Rattle.sample_unpack.specs.Bits.{bits_of, bits_of_bytes};
+ghost use Rattle.sample_unpack.specs.Samples.{sample_of};
+ghost use Rattle.std.specs.Prelude.{◌≡◌, ◌+◌, ◌*◌, ◌<◌, ◌≤◌, ◌^◌, ◌++◌, length, take, drop, replicate};
+
+use byteorder::{BigEndian, ByteOrder};
+
+use crate::Sample;
+use crate::item::sample_from;
+
+/// The number in the last bytes of a payload, fewer than eight, with zeros behind the end.
+#[cold]
+fn last_window(rest: &[u8]) -> u64
+    requires { length rest.now < 8 }
+    ensures { bits_of 64 result ≡ take 64 (bits_of_bytes rest.now ++ replicate 64 0) }
+{
+    let mut last = [0; 8];
+    last[..rest.len()].copy_from_slice(rest);
+    BigEndian::read_u64(&last)
+}
+
+/// The number in the eight bytes from `at` on, with zeros behind the payload's end.
+#[inline]
+fn window_at(payload: &[u8], at: usize) -> u64
+    requires { at ≤ length payload.now }
+    ensures { bits_of 64 result ≡ take 64 (drop (8 * at) (bits_of_bytes payload.now) ++ replicate 64 0) }
+{
+    let rest = &payload[at..];
+    if rest.len() < 8 {
+        return last_window(rest);
+    }
+    BigEndian::read_u64(rest)
+}
+
+/// The two items, of `width` bits each, from bit `offset` of the byte at `at` on.
+#[inline]
+pub(crate) fn items_at(payload: &[u8], at: usize, offset: u32, width: u32) -> u32
+    requires some { 1 ≤ width }
+    requires most { width ≤ 16 }
+    requires offset { offset < 8 }
+    requires within { 8 * at + offset + 2 * width ≤ 8 * length payload.now }
+    ensures fits { result < 2 ^ (2 * width) }
+    ensures items { bits_of (2 * width) result ≡ take (2 * width) (drop (8 * at + offset) (bits_of_bytes payload.now)) }
+{
+    let window = window_at(payload, at);
+    ((window << offset) >> (64 - 2 * width)) as u32
+}
+
+/// The sample of two bytes at `at`.
+#[inline]
+pub(crate) fn half_at(payload: &[u8], at: usize) -> Sample
+    requires { at + 2 ≤ length payload.now }
+    ensures { result ≡ sample_of 8 (drop (8 * at) (bits_of_bytes payload.now)) }
+{
+    sample_from(u32::from(BigEndian::read_u16(&payload[at..])), 8)
+}
+
+/// The sample of two half words at `at`.
+#[inline]
+pub(crate) fn word_at(payload: &[u8], at: usize) -> Sample
+    requires { at + 4 ≤ length payload.now }
+    ensures { result ≡ sample_of 16 (drop (8 * at) (bits_of_bytes payload.now)) }
+{
+    sample_from(BigEndian::read_u32(&payload[at..]), 16)
+}
