@@ -3,3 +3,4 @@ pub mod Signed
 pub mod Items
 pub mod Samples
 pub mod Packed
+pub mod Laws
