@@ -1,7 +1,7 @@
 -- Bits of numbers and of bytes, cut and joined.
-use Rattle.std.proofs.Common.{◌≡◌, ℕ, zero, suc, ◌+◌, ◌-◌, ◌*◌, ◌/◌, ◌%◌, ◌^◌, ◌<◌, ◌≤◌, ℤ, pos, ◌-ℤ◌, List, [], ◌∷◌, ◌++◌, length, take, drop, replicate, get_or, flat_map, refl, sym, ap, ap₂, ◌∙◌, suc-add, zero-add, one-add, add_comm, shr-shr, append_assoc, subst, arith}
+use Rattle.std.proofs.Common.{◌≡◌, ℕ, zero, suc, ◌+◌, ◌*◌, ◌/◌, ◌%◌, ◌^◌, ◌<◌, ◌≤◌, List, [], ◌∷◌, ◌++◌, length, take, drop, replicate, get_or, refl, sym, ap, ap₂, ◌∙◌, suc-add, zero-add, one-add, add_comm, shr-shr, append_assoc, subst, arith}
 use Rattle.std.specs.Int.{bit_at, byte_at, bytes_high_first}
-use Rattle.std.proofs.lemmas.Nat.{shr_high, shr_split, mod-pow-add, pow_pos}
+use Rattle.std.proofs.lemmas.Nat.{shr_high, shr_split, mod-pow-add}
 use Rattle.std.proofs.lemmas.Nat.Bits.{bit_at_cat_low, bit_at-zero}
 use Rattle.std.proofs.lemmas.List.{length-append, take_at, drop_at, drop_all, take_all, drop-drop, take-take, drop-take, take-append-le, replicate-append-replicate}
 use Rattle.std.proofs.Math.Seq.{take-append-add, drop-cons}
@@ -9,7 +9,7 @@ use Rattle.byteorder.specs.Endian.{big_from}
 use Rattle.byteorder.specs.Numbers.{big_from-lt}
 use Rattle.std.proofs.lemmas.List.Concat.{flat_map-append}
 use Rattle.byteorder.proofs.Bytes.{pow256}
-use Rattle.sample_unpack.specs.Bits.{bits_of, bits_of_bytes, number_of, signed_number_of}
+use Rattle.sample_unpack.specs.Bits.{bits_of, bits_of_bytes, number_of}
 
 pub bits_of_none : (n : ℕ) → bits_of 0 n ≡ []
 unfolding bits_of

@@ -1,9 +1,9 @@
 -- What the code computes of items: shifts, masks and a window of eight bytes.
-use Rattle.std.proofs.Common.{◌≡◌, ℕ, zero, suc, ◌+◌, ◌-◌, ◌*◌, ◌/◌, ◌%◌, ◌^◌, ◌<◌, ◌≤◌, ℤ, pos, negsuc, ◌-ℤ◌, List, [], ◌∷◌, ◌++◌, length, take, drop, replicate, get_or, refl, sym, ap, ap₂, ◌∙◌, subst, bit_and, bit_xor, append_assoc, shr-shr, lit<, add-sub_of_le, arith}
-use Rattle.std.proofs.lemmas.Nat.{shr_below, and_mask, one_shl, pow_below, xor_lt, shl-shr, field_of, pow_pos}
+use Rattle.std.proofs.Common.{◌≡◌, ℕ, zero, suc, ◌+◌, ◌-◌, ◌*◌, ◌/◌, ◌%◌, ◌^◌, ◌<◌, ◌≤◌, ℤ, pos, ◌-ℤ◌, List, [], ◌∷◌, ◌++◌, length, take, drop, replicate, get_or, sym, ap, ap₂, ◌∙◌, subst, bit_and, bit_xor, shr-shr, lit<, add-sub_of_le, arith}
+use Rattle.std.proofs.lemmas.Nat.{shr_below, and_mask, one_shl, pow_below, xor_lt, shl-shr, field_of}
 use Rattle.std.proofs.lemmas.Nat.Bits.{ones_shr}
 use Rattle.std.proofs.Math.Nat.{pow-le-pow_right, pow-suc}
-use Rattle.std.proofs.lemmas.List.{take_at, take_all, drop_at, drop-drop, length-append, length-drop, length-replicate, take-append-le, get_or-drop, drop-replicate, take-replicate}
+use Rattle.std.proofs.lemmas.List.{take_at, take_all, drop_at, drop-drop, length-append, length-drop, take-append-le, get_or-drop, drop-replicate, take-replicate}
 use Rattle.std.proofs.Math.Seq.{take-append-add}
 use Rattle.byteorder.specs.Numbers.{big_from-take}
 use Rattle.byteorder.specs.Endian.{big_from}
@@ -51,12 +51,12 @@ pub sample_of_items : (w items : ℕ) → sample_of w (bits_of (2 * w) items) �
 sample_of_items w items =
     let high = length-bits_of w (items / 2 ^ w) in
     let front : take w (bits_of (2 * w) items) ≡ bits_of w (items / 2 ^ w) =
-      ap (take w) (halves w items) ∙ take_at (bits_of w (items / 2 ^ w)) (bits_of w items) w high in
+    ap (take w) (halves w items) ∙ take_at (bits_of w (items / 2 ^ w)) (bits_of w items) w high in
     let back : take w (drop w (bits_of (2 * w) items)) ≡ bits_of w (items % 2 ^ w) =
-      ap (λ bs. take w (drop w bs)) (halves w items)
-      ∙ ap (take w) (drop_at (bits_of w (items / 2 ^ w)) (bits_of w items) w high)
-      ∙ take_all w (bits_of w items) (omega (arith, length-bits_of w items))
-      ∙ sym (bits_of-mod w items) in
+    ap (λ bs. take w (drop w bs)) (halves w items)
+    ∙ ap (take w) (drop_at (bits_of w (items / 2 ^ w)) (bits_of w items) w high)
+    ∙ take_all w (bits_of w items) (omega (arith, length-bits_of w items))
+    ∙ sym (bits_of-mod w items) in
     ap₂ (λ (x y : ℤ). record { i = x; q = y }) (ap signed_number_of front) (ap signed_number_of back)
 
 -- ---- the window

@@ -1,13 +1,12 @@
 -- What is written is read back, and what was read is written again.
-use Rattle.std.proofs.Common.{◌≡◌, ℕ, zero, suc, ◌+◌, ◌-◌, ◌*◌, ◌/◌, ◌%◌, ◌^◌, ◌<◌, ◌≤◌, ℤ, pos, negsuc, ◌-ℤ◌, List, [], ◌∷◌, ◌++◌, length, take, drop, replicate, map, refl, sym, ap, ap₂, ◌∙◌, subst, append_assoc, All, mod-eq_of_lt, lit<, pow-suc, arith}
-use Rattle.std.specs.List.{range_with_len}
+use Rattle.std.proofs.Common.{◌≡◌, ℕ, zero, suc, ◌+◌, ◌-◌, ◌*◌, ◌/◌, ◌%◌, ◌^◌, ◌<◌, ◌≤◌, ℤ, pos, negsuc, ◌-ℤ◌, List, [], ◌∷◌, ◌++◌, length, take, drop, refl, sym, ap, ap₂, ◌∙◌, subst, append_assoc, All, mod-eq_of_lt, lit<, pow-suc, arith}
 use Rattle.std.proofs.lemmas.Int.{ints}
-use Rattle.std.proofs.lemmas.Nat.{shr_high, mod_low, mod_below, pow_pos, mul-add-lt}
-use Rattle.std.proofs.lemmas.List.{length-append, length-take-le, length-drop, take_at, drop_at, take_all, drop-drop}
+use Rattle.std.proofs.lemmas.Nat.{shr_high, mod_low, mul-add-lt}
+use Rattle.std.proofs.lemmas.List.{length-append, length-take-le, length-drop, take_at, drop_at, drop-drop}
 use Rattle.std.proofs.lemmas.List.Elements.{All-nil, All-cons, All-head, All-tail, All-append, All-take, All-drop}
 use Rattle.std.proofs.Math.Seq.{take-add}
 use Rattle.sample_unpack.specs.Bits.{bits_of, bits_of_bytes, number_of, signed_number_of, signed_bits_of, FitsBits}
-use Rattle.sample_unpack.specs.Samples.{sample_of, sample_at, samples_from, bits_of_sample, bits_of_samples, SampleFits}
+use Rattle.sample_unpack.specs.Samples.{sample_of, samples_from, bits_of_sample, bits_of_samples, SampleFits}
 use Rattle.sample_unpack.specs.declared.sample.Sample.{Sample}
 use Rattle.sample_unpack.proofs.Bits.{length-bits_of, length-bits_of_bytes, bits_of-low, bits_of_bytes-cons, bits_of_bytes-nil}
 use Rattle.sample_unpack.proofs.Signed.{signed_number_of-bits_of}
@@ -77,8 +76,8 @@ spells (bit ∷ bits) h =
     record {
       below = omega (arith, mul-add-lt bit (2 ^ length bits) (number_of bits) 2 one rest.below, pow-suc 2 (length bits));
       same = ap₂ (λ (b : ℕ) (bs : List ℕ). b ∷ bs)
-        (ap (λ n. n % 2) (shr_high bit (length bits) (number_of bits) rest.below) ∙ mod-eq_of_lt one)
-        (bits_of-low (length bits) bit (number_of bits) ∙ rest.same);
+          (ap (λ n. n % 2) (shr_high bit (length bits) (number_of bits) rest.below) ∙ mod-eq_of_lt one)
+          (bits_of-low (length bits) bit (number_of bits) ∙ rest.same);
     }
 
 -- bits that are read as a signed number are its bits
@@ -110,11 +109,11 @@ bits_of_sample-sample_of w bits h l =
     let front : length (take w bits) ≡ w = length-take-le w bits (omega arith) in
     let back : length (take w (drop w bits)) ≡ w = length-take-le w (drop w bits) (omega (arith, length-drop w bits)) in
     let first : signed_bits_of w (signed_number_of (take w bits)) ≡ take w bits =
-      ap (λ n. signed_bits_of n (signed_number_of (take w bits))) (sym front)
-      ∙ signed_bits_of-signed_number_of (take w bits) (All-take (λ bit. bit < 2) w bits h) in
+    ap (λ n. signed_bits_of n (signed_number_of (take w bits))) (sym front)
+    ∙ signed_bits_of-signed_number_of (take w bits) (All-take (λ bit. bit < 2) w bits h) in
     let second : signed_bits_of w (signed_number_of (take w (drop w bits))) ≡ take w (drop w bits) =
-      ap (λ n. signed_bits_of n (signed_number_of (take w (drop w bits)))) (sym back)
-      ∙ signed_bits_of-signed_number_of (take w (drop w bits)) (All-take (λ bit. bit < 2) w (drop w bits) (All-drop (λ bit. bit < 2) w bits h)) in
+    ap (λ n. signed_bits_of n (signed_number_of (take w (drop w bits)))) (sym back)
+    ∙ signed_bits_of-signed_number_of (take w (drop w bits)) (All-take (λ bit. bit < 2) w (drop w bits) (All-drop (λ bit. bit < 2) w bits h)) in
     ap₂ (λ (x y : List ℕ). x ++ y) first second
     ∙ sym (take-add w w bits)
     ∙ ap (λ n. take n bits) (sym (double_is w))
@@ -132,10 +131,10 @@ bits_of_samples-samples_from w bits first (suc count) h l =
     let room : size * (first + 1 + count) ≤ length bits = omega arith in
     let there : size ≤ length here = omega (arith, length-drop (size * first) bits) in
     ap₂ (λ (x y : List ℕ). x ++ y)
-      (bits_of_sample-sample_of w here (All-drop (λ bit. bit < 2) (size * first) bits h) there)
-      (bits_of_samples-samples_from w bits (first + 1) count h room
-      ∙ ap (λ n. take (size * count) (drop n bits)) next
-      ∙ ap (take (size * count)) (sym (drop-drop size (size * first) bits)))
+    (bits_of_sample-sample_of w here (All-drop (λ bit. bit < 2) (size * first) bits h) there)
+    (bits_of_samples-samples_from w bits (first + 1) count h room
+    ∙ ap (λ n. take (size * count) (drop n bits)) next
+    ∙ ap (take (size * count)) (sym (drop-drop size (size * first) bits)))
     ∙ sym (take-add size (size * count) here)
     ∙ ap (λ n. take n here) (sym all)
 
@@ -145,15 +144,15 @@ sample_of-bits_of_sample w sample behind h f =
     let i = signed_bits_of w sample.i in
     let q = signed_bits_of w sample.q in
     let first : take w ((i ++ q) ++ behind) ≡ i =
-      ap (take w) (append_assoc i q behind) ∙ take_at i (q ++ behind) w (length-signed_bits_of w sample.i) in
+    ap (take w) (append_assoc i q behind) ∙ take_at i (q ++ behind) w (length-signed_bits_of w sample.i) in
     let second : take w (drop w ((i ++ q) ++ behind)) ≡ q =
-      ap (λ bs. take w (drop w bs)) (append_assoc i q behind)
-      ∙ ap (take w) (drop_at i (q ++ behind) w (length-signed_bits_of w sample.i))
-      ∙ take_at q behind w (length-signed_bits_of w sample.q) in
+    ap (λ bs. take w (drop w bs)) (append_assoc i q behind)
+    ∙ ap (take w) (drop_at i (q ++ behind) w (length-signed_bits_of w sample.i))
+    ∙ take_at q behind w (length-signed_bits_of w sample.q) in
     let made : ℤ → ℤ → Sample = λ x y. record { i = x; q = y } in
     ap₂ made
-      (ap signed_number_of first ∙ signed_number_of-signed_bits_of w sample.i h f.i)
-      (ap signed_number_of second ∙ signed_number_of-signed_bits_of w sample.q h f.q)
+    (ap signed_number_of first ∙ signed_number_of-signed_bits_of w sample.i h f.i)
+    (ap signed_number_of second ∙ signed_number_of-signed_bits_of w sample.q h f.q)
 
 -- samples are read back from their bits, whatever stands before and behind these
 samples_behind : (w : ℕ) (before : List ℕ) (samples : List Sample) (behind : List ℕ) (first : ℕ) → 1 ≤ w → All (SampleFits w) samples → length before ≡ 2 * w * first → samples_from w (before ++ (bits_of_samples w samples ++ behind)) first (length samples) ≡ samples
@@ -162,16 +161,16 @@ samples_behind w before (sample ∷ samples) behind first h f l =
     let here = bits_of_sample w sample in
     let rest = bits_of_samples w samples in
     let size : length here ≡ 2 * w =
-      length-append (signed_bits_of w sample.i) (signed_bits_of w sample.q)
-      ∙ ap₂ (λ (a b : ℕ). a + b) (length-signed_bits_of w sample.i) (length-signed_bits_of w sample.q) ∙ sym (double_is w) in
+    length-append (signed_bits_of w sample.i) (signed_bits_of w sample.q)
+    ∙ ap₂ (λ (a b : ℕ). a + b) (length-signed_bits_of w sample.i) (length-signed_bits_of w sample.q) ∙ sym (double_is w) in
     let further : length (before ++ here) ≡ 2 * w * (first + 1) = omega (arith, length-append before here) in
     let joined : before ++ ((here ++ rest) ++ behind) ≡ (before ++ here) ++ (rest ++ behind) =
-      ap (λ bs. before ++ bs) (append_assoc here rest behind) ∙ sym (append_assoc before here (rest ++ behind)) in
+    ap (λ bs. before ++ bs) (append_assoc here rest behind) ∙ sym (append_assoc before here (rest ++ behind)) in
     ap₂ (λ (x : Sample) (xs : List Sample). x ∷ xs)
-      (ap (sample_of w) (drop_at before ((here ++ rest) ++ behind) (2 * w * first) l ∙ append_assoc here rest behind)
-      ∙ sample_of-bits_of_sample w sample (rest ++ behind) h (All-head (SampleFits w) sample samples f))
-      (ap (λ bs. samples_from w bs (first + 1) (length samples)) joined
-      ∙ samples_behind w (before ++ here) samples behind (first + 1) h (All-tail (SampleFits w) sample samples f) further)
+    (ap (sample_of w) (drop_at before ((here ++ rest) ++ behind) (2 * w * first) l ∙ append_assoc here rest behind)
+    ∙ sample_of-bits_of_sample w sample (rest ++ behind) h (All-head (SampleFits w) sample samples f))
+    (ap (λ bs. samples_from w bs (first + 1) (length samples)) joined
+    ∙ samples_behind w (before ++ here) samples behind (first + 1) h (All-tail (SampleFits w) sample samples f) further)
 
 -- samples are read back from what was packed
 pub read_back : (w : ℕ) (samples : List Sample) (packed behind : List ℕ) → 1 ≤ w → All (SampleFits w) samples → packed ≡ bits_of_samples w samples ++ behind → samples_from w packed 0 (length samples) ≡ samples
@@ -184,8 +183,8 @@ packed_again w samples packed behind payload first e l s =
     let bits = bits_of_bytes payload in
     let used = 2 * w * length samples in
     let same : bits_of_samples w samples ≡ take used (drop (2 * w * first) bits) =
-      ap (bits_of_samples w) s
-      ∙ bits_of_samples-samples_from w bits first (length samples) (AreBits-bits_of_bytes payload) (omega (arith, length-bits_of_bytes payload)) in
+    ap (bits_of_samples w) s
+    ∙ bits_of_samples-samples_from w bits first (length samples) (AreBits-bits_of_bytes payload) (omega (arith, length-bits_of_bytes payload)) in
     let size : length (bits_of_samples w samples) ≡ used =
-      ap length same ∙ length-take-le used (drop (2 * w * first) bits) (omega (arith, length-drop (2 * w * first) bits, length-bits_of_bytes payload)) in
+    ap length same ∙ length-take-le used (drop (2 * w * first) bits) (omega (arith, length-drop (2 * w * first) bits, length-bits_of_bytes payload)) in
     ap (take used) e ∙ take_at (bits_of_samples w samples) behind used size ∙ same

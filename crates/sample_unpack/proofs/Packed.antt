@@ -1,14 +1,14 @@
 -- What the code writes: items as bits, words full of bits, and what waits for the next word.
-use Rattle.std.proofs.Common.{◌≡◌, ℕ, zero, suc, ◌+◌, ◌-◌, ◌*◌, ◌/◌, ◌%◌, ◌^◌, ◌<◌, ◌≤◌, ℤ, pos, negsuc, List, [], ◌∷◌, ◌++◌, length, take, drop, replicate, get_or, flat_map, refl, sym, ap, ap₂, ◌∙◌, subst, bit_and, bit_or, append_assoc, append-nil, of_z, mul_comm, add-zero, arith}
+use Rattle.std.proofs.Common.{◌≡◌, ℕ, zero, suc, ◌+◌, ◌-◌, ◌*◌, ◌/◌, ◌%◌, ◌^◌, ◌<◌, ◌≤◌, ℤ, pos, negsuc, List, ◌++◌, length, take, replicate, sym, ap, ap₂, ◌∙◌, subst, bit_or, append_assoc, append-nil, of_z, mul_comm, add-zero, arith}
 use Rattle.std.specs.Int.{w16, bytes_high_first}
 use Rattle.std.proofs.lemmas.Int.{ints}
-use Rattle.std.proofs.lemmas.Nat.{shl_whole, shl_below, or_shifted, and_mask, one_shl, pow-add, pow_pos, mul-add-lt, shr_below, mod_below}
-use Rattle.std.proofs.lemmas.List.{length-append, length-take-le, take_at, take_all}
+use Rattle.std.proofs.lemmas.Nat.{shl_whole, shl_below, or_shifted, pow-add, pow_pos, mul-add-lt}
+use Rattle.std.proofs.lemmas.List.{length-take-le, take_at, take_all}
 use Rattle.std.proofs.Math.Seq.{take-append-add}
 use Rattle.std.proofs.Math.Nat.{pow-le-pow_right}
 use Rattle.byteorder.specs.Numbers.{length-bytes_high_first}
 use Rattle.sample_unpack.specs.Bits.{bits_of, bits_of_bytes, signed_bits_of, FitsBits}
-use Rattle.sample_unpack.proofs.Bits.{bits_of_none, bits_of-low, bits_of-mod, bits_of-add, bits_of-zero, bits_of_joined, bits_of_written, bits_of_bytes-append, length-bits_of_bytes}
+use Rattle.sample_unpack.proofs.Bits.{bits_of_none, bits_of-low, bits_of-mod, bits_of-zero, bits_of_joined, bits_of_written, bits_of_bytes-append}
 
 -- ---- items
 
@@ -20,7 +20,7 @@ negative_low : (w n : ℕ) → w ≤ 16 → suc n ≤ 2 ^ w → bits_of w (2 ^ 1
 negative_low w n h l =
     let places : 16 ≡ 16 - w + w = omega arith in
     let split : 2 ^ 16 - suc n ≡ (2 ^ (16 - w) - 1) * 2 ^ w + (2 ^ w - suc n) =
-      ap (λ e. 2 ^ e - suc n) places ∙ ap (λ m. m - suc n) (pow-add 2 (16 - w) w) ∙ take_once (2 ^ (16 - w)) (2 ^ w) (suc n) (pow_pos (16 - w)) l in
+    ap (λ e. 2 ^ e - suc n) places ∙ ap (λ m. m - suc n) (pow-add 2 (16 - w) w) ∙ take_once (2 ^ (16 - w)) (2 ^ w) (suc n) (pow_pos (16 - w)) l in
     ap (bits_of w) split ∙ bits_of-low w (2 ^ (16 - w) - 1) (2 ^ w - suc n)
 
 -- the lowest bits of a number's 16 bits in two's complement
@@ -73,9 +73,9 @@ last_word held waiting h l =
       value = shl_whole waiting held rest 64 l (omega arith);
       fits = subst (λ e. waiting * 2 ^ rest < 2 ^ e) whole (shl_below waiting held rest l);
       padded =
-        ap₂ bits_of (sym whole) (sym (add-zero (waiting * 2 ^ rest)))
-        ∙ bits_of_joined held rest waiting 0 (pow_pos rest)
-        ∙ ap (λ bs. bits_of held waiting ++ bs) (bits_of-zero rest);
+          ap₂ bits_of (sym whole) (sym (add-zero (waiting * 2 ^ rest)))
+          ∙ bits_of_joined held rest waiting 0 (pow_pos rest)
+          ∙ ap (λ bs. bits_of held waiting ++ bs) (bits_of-zero rest);
     }
 
 pub last_written : (old new : List ℕ) (words held waiting : ℕ) → held < 32 → 0 < held → waiting < 2 ^ held → length old ≡ 4 * ((32 * words + held + 31) / 32) → length new ≡ length old → bits_of_bytes (take (4 * words + 4) new) ≡ bits_of_bytes (take (4 * words) old) ++ bits_of 32 (waiting * 2 ^ (32 - held)) → bits_of_bytes new ≡ bits_of_bytes (take (4 * words) old) ++ bits_of held waiting ++ replicate (8 * length old - (32 * words + held)) 0

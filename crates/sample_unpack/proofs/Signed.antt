@@ -1,9 +1,9 @@
 -- Numbers in two's complement, by their bits.
-use Rattle.std.proofs.Common.{◌≡◌, ℕ, zero, suc, ◌+◌, ◌-◌, ◌*◌, ◌/◌, ◌%◌, ◌^◌, ◌<◌, ◌≤◌, ℤ, pos, negsuc, ◌-ℤ◌, List, [], ◌∷◌, refl, sym, ap, ap₂, ◌∙◌, bit_xor, subst, one-add, mod-eq_of_lt, arith}
+use Rattle.std.proofs.Common.{◌≡◌, ℕ, zero, suc, ◌+◌, ◌*◌, ◌/◌, ◌%◌, ◌^◌, ◌<◌, pos, ◌-ℤ◌, sym, ap, ap₂, ◌∙◌, bit_xor, subst, one-add, mod-eq_of_lt, arith}
 use Rattle.std.proofs.lemmas.Int.{ints}
-use Rattle.std.proofs.lemmas.Nat.{shr_high, mod_low, shr_split, xor_block, pow_pos, shr_below, mod_below}
+use Rattle.std.proofs.lemmas.Nat.{shr_split, xor_block, pow_pos, shr_below, mod_below}
 use Rattle.std.specs.Int.Bits.{xor_zero_r}
-use Rattle.sample_unpack.specs.Bits.{bits_of, number_of, signed_number_of}
+use Rattle.sample_unpack.specs.Bits.{bits_of, signed_number_of}
 use Rattle.sample_unpack.proofs.Bits.{length-bits_of, number_of-bits_of}
 
 -- the first bit of suc w, and the rest

@@ -1,5 +1,5 @@
 -- The samples that stand in a list of bits, and the bits that samples have.
-use Rattle.std.specs.Prelude.{◌≡◌, ℕ, ◌+◌, ◌*◌, ◌/◌, ◌<◌, ◌≤◌, List, ◌++◌, map, length, take, drop, flat_map}
+use Rattle.std.specs.Prelude.{ℕ, ◌+◌, ◌*◌, ◌/◌, ◌<◌, ◌≤◌, List, ◌++◌, map, take, drop, flat_map}
 use Rattle.std.specs.List.{range_with_len}
 use Rattle.sample_unpack.specs.Bits.{signed_number_of, signed_bits_of, FitsBits}
 use Rattle.sample_unpack.specs.declared.sample.Sample.{Sample}

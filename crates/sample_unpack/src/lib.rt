@@ -7,6 +7,8 @@ mod item;
 mod pack;
 mod put;
 mod sample;
+#[cfg(test)]
+mod tests;
 mod unpack;
 mod window;
 

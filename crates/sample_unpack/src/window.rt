@@ -2,10 +2,9 @@ ghost use Rattle.sample_unpack.specs.Bits.{bits_of, bits_of_bytes};
 ghost use Rattle.sample_unpack.specs.Samples.{sample_of};
 ghost use Rattle.std.specs.Prelude.{◌≡◌, ◌+◌, ◌*◌, ◌<◌, ◌≤◌, ◌^◌, ◌++◌, length, take, drop, replicate};
 
-use byteorder::{BigEndian, ByteOrder};
-
 use crate::Sample;
 use crate::item::sample_from;
+use byteorder::{BigEndian, ByteOrder};
 
 /// The number in the last bytes of a payload, fewer than eight, with zeros behind the end.
 #[cold]

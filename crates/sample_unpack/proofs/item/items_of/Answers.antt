@@ -1,4 +1,4 @@
-use Rattle.std.proofs.Common.{List, ℕ, ◌∙◌, ap, ap₂, sym, subst, ◌*◌, ◌+◌, ◌<◌, ◌^◌, ◌++◌, FitsSigned, to_z-of_z, arith, rules}
+use Rattle.std.proofs.Common.{List, ℕ, ◌∙◌, ap, ap₂, ◌++◌, FitsSigned, to_z-of_z, arith, rules}
 use Rattle.std.specs.Int.{w16}
 use Rattle.sample_unpack.specs.Bits.{bits_of, signed_bits_of}
 use Rattle.sample_unpack.proofs.Items.{double_is}
@@ -21,5 +21,5 @@ returns-clause-items c =
     ap₂ bits_of (double_is w) j.value
     ∙ j.joined
     ∙ ap₂ (λ (x y : List ℕ). x ++ y)
-      (c.item_of.ensures.item ∙ ap (signed_bits_of w) (to_z-of_z first))
-      (c.item_of-2.ensures.item ∙ ap (signed_bits_of w) (to_z-of_z second))
+    (c.item_of.ensures.item ∙ ap (signed_bits_of w) (to_z-of_z first))
+    (c.item_of-2.ensures.item ∙ ap (signed_bits_of w) (to_z-of_z second))

@@ -1,4 +1,4 @@
-use Rattle.std.proofs.Common.{◌∙◌, ap, sym, ap₂, ◌^◌, ◌+◌, ℤ, FitsSigned, to_z-of_z, arith, rules}
+use Rattle.std.proofs.Common.{◌∙◌, ap, sym, ap₂, ◌^◌, ℤ, FitsSigned, to_z-of_z, arith, rules}
 use Rattle.std.specs.Int.{w16}
 use Rattle.std.proofs.lemmas.Nat.{mod_below, pow_pos}
 use Rattle.sample_unpack.specs.Bits.{bits_of, signed_number_of}
@@ -21,6 +21,6 @@ returns c =
     let first : FitsSigned w16 c.signed.result = search rules in
     let second : FitsSigned w16 c.signed-2.result = search rules in
     ap₂ sample
-      (to_z-of_z first ∙ c.signed.ensures)
-      (to_z-of_z second ∙ c.signed-2.ensures ∙ ap (λ n. signed_number_of (bits_of w n)) (low_mask w c.args.items (omega arith)))
+    (to_z-of_z first ∙ c.signed.ensures)
+    (to_z-of_z second ∙ c.signed-2.ensures ∙ ap (λ n. signed_number_of (bits_of w n)) (low_mask w c.args.items (omega arith)))
     ∙ sym (sample_of_items w c.args.items)

@@ -19,7 +19,7 @@ returns-then-samples-eq1 c =
     ap bits_of_bytes (sym (take_all (2 * number + 2) into (omega arith)))
     ∙ c.put_half-then-samples-eq1.ensures
     ∙ ap₂ (λ (x y : List ℕ). x ++ y)
-      (ap (λ n. bits_of_bytes (take (2 * n) c.loop-index.into)) (sym end)
-      ∙ c.loop-index.invariant
-      ∙ ap (bits_of_samples 8) (take_all c.loop-index.index samples (omega arith)))
-      (bits_of-zero 16 ∙ ap (λ n. replicate n 0) unused)
+    (ap (λ n. bits_of_bytes (take (2 * n) c.loop-index.into)) (sym end)
+    ∙ c.loop-index.invariant
+    ∙ ap (bits_of_samples 8) (take_all c.loop-index.index samples (omega arith)))
+    (bits_of-zero 16 ∙ ap (λ n. replicate n 0) unused)

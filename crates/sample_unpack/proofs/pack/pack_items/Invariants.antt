@@ -5,8 +5,8 @@ use Rattle.sample_unpack.proofs.pack.pack_items.Given as goal
 
 abbrev pub invariant-loop-sample : goal.invariant-loop-sample
 invariant-loop-sample l = record {
-    place : 32 * l.words + l.held ≡ 2 * l.width * l.sample-index;
-    short : l.held < 32;
-    fits : l.waiting < 2 ^ l.held;
-    done : bits_of_bytes (take (4 * l.words) l.into) ++ bits_of l.held l.waiting ≡ bits_of_samples l.width (take l.sample-index l.samples);
-  }
+  place : 32 * l.words + l.held ≡ 2 * l.width * l.sample-index;
+  short : l.held < 32;
+  fits : l.waiting < 2 ^ l.held;
+  done : bits_of_bytes (take (4 * l.words) l.into) ++ bits_of l.held l.waiting ≡ bits_of_samples l.width (take l.sample-index l.samples);
+}

@@ -1,4 +1,4 @@
-use Rattle.std.proofs.Common.{◌∙◌, ap, sym, ◌+◌, ◌-◌, ◌/◌, ◌%◌, ◌++◌, ◌^◌, arith}
+use Rattle.std.proofs.Common.{◌∙◌, ap, sym, ◌-◌, ◌/◌, ◌++◌, ◌^◌, arith}
 use Rattle.std.proofs.lemmas.Nat.{shr_below, one_shl, and_mask}
 use Rattle.std.specs.Int.RustNames.{bit_and}
 use Rattle.sample_unpack.specs.Bits.{bits_of}
@@ -16,4 +16,4 @@ returns-clause-split c =
     let rest = c.args.rest in
     bits_of-add 32 rest n
     ∙ ap (λ bs. bits_of 32 (n / 2 ^ rest) ++ bs)
-      (sym (bits_of-mod rest n) ∙ ap (bits_of rest) (sym (and_mask n rest) ∙ ap (λ m. bit_and n (m - 1)) (sym (one_shl rest 64 (omega arith)))))
+    (sym (bits_of-mod rest n) ∙ ap (bits_of rest) (sym (and_mask n rest) ∙ ap (λ m. bit_and n (m - 1)) (sym (one_shl rest 64 (omega arith)))))

@@ -1,5 +1,4 @@
-use Rattle.std.proofs.Common.{ℕ, ◌∙◌, ap, ap₂, subst, sym, ◌+◌, ◌*◌, ◌<◌, ◌^◌, bit_or, ◌%◌, arith}
-use Rattle.sample_unpack.specs.Bits.{bits_of}
+use Rattle.std.proofs.Common.{arith}
 use Rattle.sample_unpack.proofs.Packed.{joins}
 use Rattle.sample_unpack.proofs.put.joined.Goals as goal
 

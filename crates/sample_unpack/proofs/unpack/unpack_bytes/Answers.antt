@@ -1,4 +1,4 @@
-use Rattle.std.proofs.Common.{ℕ, ◌≡◌, ◌+◌, ◌*◌, ◌∙◌, ap, drop, arith}
+use Rattle.std.proofs.Common.{◌≡◌, ◌+◌, ◌*◌, ◌∙◌, ap, drop, arith}
 use Rattle.sample_unpack.specs.Bits.{bits_of_bytes}
 use Rattle.sample_unpack.specs.Samples.{sample_of}
 use Rattle.sample_unpack.proofs.Samples.{samples_more}
@@ -10,4 +10,4 @@ loop-index-preserved c =
     let number = c.args.first + c.loop-index.index in
     let place : 8 * (2 * number) ≡ 2 * 8 * number = omega arith in
     samples_more 8 bits c.args.first c.loop-index.index c.loop-index.into c.half_at.result (omega arith) c.loop-index.invariant
-      (c.half_at.ensures ∙ ap (λ n. sample_of 8 (drop n bits)) place)
+    (c.half_at.ensures ∙ ap (λ n. sample_of 8 (drop n bits)) place)

@@ -1,4 +1,4 @@
-use Rattle.std.proofs.Common.{ℕ, ◌≡◌, ◌+◌, ◌*◌, ◌∙◌, ap, drop, arith}
+use Rattle.std.proofs.Common.{◌≡◌, ◌+◌, ◌*◌, ◌∙◌, ap, drop, arith}
 use Rattle.sample_unpack.specs.Bits.{bits_of_bytes}
 use Rattle.sample_unpack.specs.Samples.{sample_of}
 use Rattle.sample_unpack.proofs.Samples.{samples_more}
@@ -10,4 +10,4 @@ loop-index-preserved c =
     let number = c.args.first + c.loop-index.index in
     let place : 8 * (4 * number) ≡ 2 * 16 * number = omega arith in
     samples_more 16 bits c.args.first c.loop-index.index c.loop-index.into c.word_at.result (omega arith) c.loop-index.invariant
-      (c.word_at.ensures ∙ ap (λ n. sample_of 16 (drop n bits)) place)
+    (c.word_at.ensures ∙ ap (λ n. sample_of 16 (drop n bits)) place)

@@ -13,8 +13,8 @@ loop-sample-preserved c =
       place = omega arith;
       in_byte = omega arith;
       done = samples_more width bits c.args.first now.sample-index now.into c.sample_from.result (omega arith) now.invariant.done
-        (c.sample_from.ensures
-        ∙ ap (sample_of width) c.items_at.ensures.items
-        ∙ sample_of-take width (drop (8 * now.at + now.offset) bits)
-        ∙ ap (λ n. sample_of width (drop n bits)) now.invariant.place);
+          (c.sample_from.ensures
+          ∙ ap (sample_of width) c.items_at.ensures.items
+          ∙ sample_of-take width (drop (8 * now.at + now.offset) bits)
+          ∙ ap (λ n. sample_of width (drop n bits)) now.invariant.place);
     }

@@ -1,4 +1,4 @@
-use Rattle.std.proofs.Common.{◌+◌, ◌-◌, ◌*◌, ◌%◌, ◌/◌, ◌<◌, ◌≤◌, ◌^◌, ◌∙◌, ap, arith}
+use Rattle.std.proofs.Common.{◌-◌, ◌*◌, ◌/◌, ◌≤◌, ◌^◌, ◌∙◌, ap, arith}
 use Rattle.std.proofs.Math.Nat.{pow-le-pow_right}
 use Rattle.std.proofs.lemmas.Nat.{mod_below, pow_pos}
 use Rattle.sample_unpack.specs.Bits.{bits_of, bits_of_bytes}
@@ -30,4 +30,4 @@ returns-clause-items c =
     let e = shifted c.window_at-window.result c.args.offset size (64 - size) low (omega arith) (omega arith) in
     ap (bits_of size) e
     ∙ items_in bits c.window_at-window.result (8 * c.args.at) c.args.offset size low (omega arith)
-      (omega (arith, length-bits_of_bytes c.args.payload.now)) c.window_at-window.ensures
+    (omega (arith, length-bits_of_bytes c.args.payload.now)) c.window_at-window.ensures

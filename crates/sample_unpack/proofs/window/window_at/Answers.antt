@@ -1,4 +1,4 @@
-use Rattle.std.proofs.Common.{◌≡◌, ◌∙◌, ◌++◌, ap, length, take, drop, replicate, arith}
+use Rattle.std.proofs.Common.{◌∙◌, ◌++◌, ap, length, take, replicate, arith}
 use Rattle.std.proofs.lemmas.List.{take_rest, length-drop}
 use Rattle.byteorder.specs.Endian.{big_from}
 use Rattle.sample_unpack.specs.Bits.{bits_of_bytes}
@@ -19,5 +19,5 @@ returns c =
     let whole = take_rest payload c.args.at in
     let there = c.if-rest-lt8.false in
     window_of_read payload c.args.at c.read_u64.result (λ k. (c.type_inv.payload k).fits)
-      (omega (arith, ap length whole, length-drop c.args.at payload))
-      (c.read_u64.ensures ∙ ap (big_from 0 8) whole)
+    (omega (arith, ap length whole, length-drop c.args.at payload))
+    (c.read_u64.ensures ∙ ap (big_from 0 8) whole)
