@@ -6,7 +6,7 @@ use Rattle.std.proofs.lemmas.List.{length-append, length-take-le, length-drop, t
 use Rattle.std.proofs.lemmas.List.Elements.{All-nil, All-cons, All-head, All-tail, All-append, All-take, All-drop}
 use Rattle.std.proofs.Math.Seq.{take-add}
 use Rattle.sample_unpack.specs.Bits.{bits_of, bits_of_bytes, number_of, signed_number_of, signed_bits_of, FitsBits}
-use Rattle.sample_unpack.specs.Samples.{sample_of, samples_from, bits_of_sample, bits_of_samples, SampleFits}
+use Rattle.sample_unpack.specs.Samples.{sample_of, samples_from, bits_from, bits_of_sample, bits_of_samples, SampleFits, LieWithin}
 use Rattle.sample_unpack.specs.declared.sample.Sample.{Sample}
 use Rattle.sample_unpack.proofs.Bits.{length-bits_of, length-bits_of_bytes, bits_of-low, bits_of_bytes-cons, bits_of_bytes-nil}
 use Rattle.sample_unpack.proofs.Signed.{signed_number_of-bits_of}
@@ -177,9 +177,8 @@ pub read_back : (w : ℕ) (samples : List Sample) (packed behind : List ℕ) →
 read_back w samples packed behind h f e =
     ap (λ bs. samples_from w bs 0 (length samples)) e ∙ samples_behind w [] samples behind 0 h f (omega arith)
 
--- samples that were read are packed to the bits that they were read from
-pub packed_again : (w : ℕ) (samples : List Sample) (packed behind payload : List ℕ) (first : ℕ) → packed ≡ bits_of_samples w samples ++ behind → 2 * w * (first + length samples) ≤ 8 * length payload → samples ≡ samples_from w (bits_of_bytes payload) first (length samples) → take (2 * w * length samples) packed ≡ take (2 * w * length samples) (drop (2 * w * first) (bits_of_bytes payload))
-packed_again w samples packed behind payload first e l s =
+again_where : (w : ℕ) (samples : List Sample) (packed behind payload : List ℕ) (first : ℕ) → packed ≡ bits_of_samples w samples ++ behind → 2 * w * (first + length samples) ≤ 8 * length payload → samples ≡ samples_from w (bits_of_bytes payload) first (length samples) → take (2 * w * length samples) packed ≡ bits_from w (bits_of_bytes payload) first (length samples)
+again_where w samples packed behind payload first e l s =
     let bits = bits_of_bytes payload in
     let used = 2 * w * length samples in
     let same : bits_of_samples w samples ≡ take used (drop (2 * w * first) bits) =
@@ -188,3 +187,20 @@ packed_again w samples packed behind payload first e l s =
     let size : length (bits_of_samples w samples) ≡ used =
     ap length same ∙ length-take-le used (drop (2 * w * first) bits) (omega (arith, length-drop (2 * w * first) bits, length-bits_of_bytes payload)) in
     ap (take used) e ∙ take_at (bits_of_samples w samples) behind used size ∙ same
+
+from_start : (w count : ℕ) (bits : List ℕ) → bits_from w bits 0 count ≡ take (2 * w * count) bits
+from_start w count bits =
+    let start : 2 * w * 0 ≡ 0 = omega arith in
+    ap (λ n. take (2 * w * count) (drop n bits)) start
+
+none_from : (w first : ℕ) (bits : List ℕ) → bits_from w bits first 0 ≡ []
+none_from w first bits =
+    let none : 2 * w * 0 ≡ 0 = omega arith in
+    ap (λ n. take n (drop (2 * w * first) bits)) none
+
+-- samples that were read are packed to the bits that they were read from
+pub packed_again : (w : ℕ) (samples : List Sample) (packed behind payload : List ℕ) (first : ℕ) → packed ≡ bits_of_samples w samples ++ behind → LieWithin w first (length samples) (length payload) → samples ≡ samples_from w (bits_of_bytes payload) first (length samples) → bits_from w packed 0 (length samples) ≡ bits_from w (bits_of_bytes payload) first (length samples)
+packed_again w [] packed behind payload first e l s = none_from w 0 packed ∙ sym (none_from w first (bits_of_bytes payload))
+packed_again w (sample ∷ samples) packed behind payload first e l s =
+    from_start w (length (sample ∷ samples)) packed
+    ∙ again_where w (sample ∷ samples) packed behind payload first e (l (omega arith)) s

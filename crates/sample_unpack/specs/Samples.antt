@@ -16,6 +16,10 @@ sample_at width bits number = sample_of width (drop (2 * width * number) bits)
 abbrev pub samples_from : ℕ → List ℕ → ℕ → ℕ → List Sample
 samples_from width bits first count = map (sample_at width bits) (range_with_len first count)
 
+-- the bits in which so many samples stand, from number `first` on
+abbrev pub bits_from : ℕ → List ℕ → ℕ → ℕ → List ℕ
+bits_from width bits first count = take (2 * width * count) (drop (2 * width * first) bits)
+
 -- the bits of a sample: those of I, and then those of Q
 abbrev pub bits_of_sample : ℕ → Sample → List ℕ
 bits_of_sample width sample = signed_bits_of width sample.i ++ signed_bits_of width sample.q

@@ -1,5 +1,6 @@
 //! Complex samples in the payload of a data packet, whose items have 4 to 16 bits each and stand
-//! one after another across word boundaries: how many there are, reading them, and writing them.
+//! one after another across word boundaries, which ANSI/VITA 49.2 calls link-efficient packing: how
+//! many there are, reading them, and writing them. No call allocates.
 #![tactic(auto)]
 
 mod count;

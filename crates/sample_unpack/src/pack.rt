@@ -1,5 +1,5 @@
 ghost use Rattle.sample_unpack.specs.Bits.{bits_of_bytes};
-ghost use Rattle.sample_unpack.specs.Samples.{SampleFits, bits_of_samples, samples_from, words_for};
+ghost use Rattle.sample_unpack.specs.Samples.{LieWithin, SampleFits, bits_from, bits_of_samples, samples_from, words_for};
 ghost use Rattle.std.specs.Prelude.{◌≡◌, ℕ, ◌+◌, ◌-◌, ◌*◌, ◌≤◌, List, ◌++◌, All, length, take, drop, replicate};
 
 use crate::Sample;
@@ -19,7 +19,7 @@ pub fn pack_into(samples: &[Sample], bits: u8, into: &mut [u8])
     requires whole_words { length into.old ≡ 4 * words_for bits (length samples.now) }
     ensures packed { bits_of_bytes into.new ≡ bits_of_samples bits samples.now ++ replicate (8 * length into.old - 2 * bits * length samples.now) 0 }
     ensures read_back { samples_from bits (bits_of_bytes into.new) 0 (length samples.now) ≡ samples.now }
-    ensures again { (payload : List ℕ) (first : ℕ) → 2 * bits * (first + length samples.now) ≤ 8 * length payload → samples.now ≡ samples_from bits (bits_of_bytes payload) first (length samples.now) → take (2 * bits * length samples.now) (bits_of_bytes into.new) ≡ take (2 * bits * length samples.now) (drop (2 * bits * first) (bits_of_bytes payload)) }
+    ensures again { (payload : List ℕ) (first : ℕ) → LieWithin bits first (length samples.now) (length payload) → samples.now ≡ samples_from bits (bits_of_bytes payload) first (length samples.now) → bits_from bits (bits_of_bytes into.new) 0 (length samples.now) ≡ bits_from bits (bits_of_bytes payload) first (length samples.now) }
 {
     match bits {
         8 => pack_bytes(samples, into),
