@@ -20,16 +20,18 @@ low_mask w n h =
 pub record Signs (low width item : ℕ) : Type 0 where
   pub top : 1 * 2 ^ low % 4294967296 ≡ 2 ^ low
   pub small : 2 ^ low ≤ 2 ^ 15
-  pub turned : bit_xor item (2 ^ low) < 2 * 2 ^ low
-  pub value : pos (bit_xor item (2 ^ low)) -ℤ pos (2 ^ low) ≡ signed_number_of (bits_of width item)
+  pub turned : bit_xor item (1 * 2 ^ low % 4294967296) < 2 * 2 ^ low
+  pub value : pos (bit_xor item (1 * 2 ^ low % 4294967296)) -ℤ pos (1 * 2 ^ low % 4294967296) ≡ signed_number_of (bits_of width item)
 
 signs_of : (w item : ℕ) → w < 16 → item < 2 ^ suc w → Signs w (suc w) item
 signs_of w item most fits =
+    let top : 1 * 2 ^ w % 4294967296 ≡ 2 ^ w = one_shl w 32 (omega arith) in
+    let turned : bit_xor item (2 ^ w) < 2 * 2 ^ w = omega (arith, pow-suc 2 w, xor_lt (suc w) item (2 ^ w) fits (pow_below w (suc w) (omega arith))) in
     record {
-      top = one_shl w 32 (omega arith);
+      top = top;
       small = pow-le-pow_right (omega arith) {i = w} {j = 15} (omega arith);
-      turned = omega (arith, pow-suc 2 w, xor_lt (suc w) item (2 ^ w) fits (pow_below w (suc w) (omega arith)));
-      value = sign_by_xor w item fits;
+      turned = rw top turned;
+      value = rw top (sign_by_xor w item fits);
     }
 
 pub signs : (low width item : ℕ) → suc low ≡ width → width ≤ 16 → item < 2 ^ width → Signs low width item
