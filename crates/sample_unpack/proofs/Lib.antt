@@ -3,4 +3,4 @@ pub mod Signed
 pub mod Items
 pub mod Samples
 pub mod Packed
-pub mod Laws
+pub mod RoundTrip

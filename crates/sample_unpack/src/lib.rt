@@ -5,6 +5,7 @@
 
 mod count;
 mod item;
+mod laws;
 mod pack;
 mod put;
 mod sample;
@@ -14,6 +15,7 @@ mod unpack;
 mod window;
 
 pub use crate::count::count_of;
+pub use crate::laws::{packing_unpacked, unpacking_packed};
 pub use crate::pack::pack_into;
 pub use crate::sample::Sample;
 pub use crate::unpack::unpack_into;

@@ -1,6 +1,6 @@
 ghost use Rattle.sample_unpack.specs.Bits.{bits_of_bytes};
-ghost use Rattle.sample_unpack.specs.Samples.{LieWithin, samples_from};
-ghost use Rattle.std.specs.Prelude.{◌≡◌, ◌≤◌, length};
+ghost use Rattle.sample_unpack.specs.Samples.{LieWithin, SampleFits, samples_from};
+ghost use Rattle.std.specs.Prelude.{◌≡◌, ◌≤◌, All, length};
 
 use crate::Sample;
 use crate::item::sample_from;
@@ -14,7 +14,8 @@ pub fn unpack_into(payload: &[u8], bits: u8, first: u32, into: &mut [Sample])
     requires some_bits { 4 ≤ bits }
     requires most_bits { bits ≤ 16 }
     requires within { LieWithin bits first (length into.old) (length payload.now) }
-    ensures { into.new ≡ samples_from bits (bits_of_bytes payload.now) first (length into.old) }
+    ensures samples { into.new ≡ samples_from bits (bits_of_bytes payload.now) first (length into.old) }
+    ensures fit { All (SampleFits bits) into.new }
 {
     match bits {
         8 => unpack_bytes(payload, first, into),

@@ -1,7 +1,7 @@
 use Rattle.std.proofs.Common.{ℕ, List, ◌≡◌, ◌-◌, ◌*◌, ◌++◌, length, replicate, arith, rules}
 use Rattle.sample_unpack.specs.Bits.{bits_of_bytes}
 use Rattle.sample_unpack.specs.Samples.{bits_of_samples}
-use Rattle.sample_unpack.proofs.Laws.{read_back, packed_again}
+use Rattle.sample_unpack.proofs.RoundTrip.{read_back, packed_again}
 use Rattle.sample_unpack.proofs.pack.pack_into.Goals as goal
 
 pub returns-in-8-clause-read_back : goal.returns-in-8-clause-read_back

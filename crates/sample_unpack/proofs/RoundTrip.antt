@@ -1,5 +1,5 @@
 -- What is written is read back, and what was read is written again.
-use Rattle.std.proofs.Common.{◌≡◌, ℕ, zero, suc, ◌+◌, ◌-◌, ◌*◌, ◌/◌, ◌%◌, ◌^◌, ◌<◌, ◌≤◌, ℤ, pos, negsuc, ◌-ℤ◌, List, [], ◌∷◌, ◌++◌, length, take, drop, refl, sym, ap, ap₂, ◌∙◌, subst, append_assoc, All, mod-eq_of_lt, lit<, pow-suc, arith}
+use Rattle.std.proofs.Common.{◌≡◌, ℕ, zero, suc, ◌+◌, ◌-◌, ◌*◌, ◌/◌, ◌%◌, ◌^◌, ◌<◌, ◌≤◌, ℤ, pos, negsuc, ◌-ℤ◌, List, [], ◌∷◌, ◌++◌, length, take, drop, refl, sym, ap, ap₂, ◌∙◌, subst, append_assoc, All, mod-eq_of_lt, lit<, pow-suc, mul-le-mul_right, arith}
 use Rattle.std.proofs.lemmas.Int.{ints}
 use Rattle.std.proofs.lemmas.Nat.{shr_high, mod_low, mul-add-lt}
 use Rattle.std.proofs.lemmas.List.{length-append, length-take-le, length-drop, take_at, drop_at, drop-drop}
@@ -177,6 +177,15 @@ pub read_back : (w : ℕ) (samples : List Sample) (packed behind : List ℕ) →
 read_back w samples packed behind h f e =
     ap (λ bs. samples_from w bs 0 (length samples)) e ∙ samples_behind w [] samples behind 0 h f (omega arith)
 
+-- the bits of samples that were read
+pub bits_kept : (w : ℕ) (payload : List ℕ) (first count : ℕ) → LieWithin w first count (length payload) → bits_of_samples w (samples_from w (bits_of_bytes payload) first count) ≡ bits_from w (bits_of_bytes payload) first count
+bits_kept w payload first zero l =
+    let none : 2 * w * 0 ≡ 0 = omega arith in
+    sym (ap (λ n. take n (drop (2 * w * first) (bits_of_bytes payload))) none)
+bits_kept w payload first (suc count) l =
+    let room : 2 * w * (first + suc count) ≤ length (bits_of_bytes payload) = omega (arith, length-bits_of_bytes payload, l (omega arith)) in
+    bits_of_samples-samples_from w (bits_of_bytes payload) first (suc count) (AreBits-bits_of_bytes payload) room
+
 again_where : (w : ℕ) (samples : List Sample) (packed behind payload : List ℕ) (first : ℕ) → packed ≡ bits_of_samples w samples ++ behind → 2 * w * (first + length samples) ≤ 8 * length payload → samples ≡ samples_from w (bits_of_bytes payload) first (length samples) → take (2 * w * length samples) packed ≡ bits_from w (bits_of_bytes payload) first (length samples)
 again_where w samples packed behind payload first e l s =
     let bits = bits_of_bytes payload in
@@ -204,3 +213,51 @@ packed_again w [] packed behind payload first e l s = none_from w 0 packed ∙ s
 packed_again w (sample ∷ samples) packed behind payload first e l s =
     from_start w (length (sample ∷ samples)) packed
     ∙ again_where w (sample ∷ samples) packed behind payload first e (l (omega arith)) s
+
+-- ---- range
+
+-- a number that bits spell in two's complement has so many bits
+pub FitsBits-signed_number_of : (bits : List ℕ) → AreBits bits → 1 ≤ length bits → FitsBits (length bits) (signed_number_of bits)
+unfolding number_of signed_number_of
+FitsBits-signed_number_of [] h l = absurd (omega arith)
+FitsBits-signed_number_of (bit ∷ bits) h l =
+    let low = length bits in
+    let below = Spells.below (spells bits (All-tail (λ b. b < 2) bit bits h)) in
+    let one : bit < 2 = All-head (λ b. b < 2) bit bits h in
+    let worth : bit * 2 ^ low ≤ 1 * 2 ^ low = mul-le-mul_right (2 ^ low) (omega arith) in
+    let places : suc low - 1 ≡ low = omega arith in
+    let limit : 2 ^ (suc low - 1) ≡ 2 ^ low = ap (λ e. 2 ^ e) places in
+    (omega (arith, ints), omega (arith, ints))
+
+-- a sample that is read from enough bits fits
+pub SampleFits-sample_of : (w : ℕ) (bits : List ℕ) → 1 ≤ w → AreBits bits → 2 * w ≤ length bits → SampleFits w (sample_of w bits)
+SampleFits-sample_of w bits s h l =
+    let front : length (take w bits) ≡ w = length-take-le w bits (omega arith) in
+    let back : length (take w (drop w bits)) ≡ w = length-take-le w (drop w bits) (omega (arith, length-drop w bits)) in
+    record {
+      i =
+          subst (λ n. FitsBits n (signed_number_of (take w bits))) front
+          (FitsBits-signed_number_of (take w bits) (All-take (λ bit. bit < 2) w bits h) (omega arith));
+      q =
+          subst (λ n. FitsBits n (signed_number_of (take w (drop w bits)))) back
+          (FitsBits-signed_number_of (take w (drop w bits)) (All-take (λ bit. bit < 2) w (drop w bits) (All-drop (λ bit. bit < 2) w bits h)) (omega arith));
+    }
+
+-- samples that are read from enough bits fit
+pub All_fit-samples_from : (w : ℕ) (bits : List ℕ) (first count : ℕ) → 1 ≤ w → AreBits bits → 2 * w * (first + count) ≤ length bits → All (SampleFits w) (samples_from w bits first count)
+All_fit-samples_from w bits first zero s h l = All-nil (SampleFits w)
+All_fit-samples_from w bits first (suc count) s h l =
+    let size = 2 * w in
+    let here = drop (size * first) bits in
+    let room : size * (first + 1 + count) ≤ length bits = omega arith in
+    let there : size ≤ length here = omega (arith, length-drop (size * first) bits) in
+    All-cons (SampleFits w) (sample_of w here) (samples_from w bits (first + 1) count)
+    (SampleFits-sample_of w here s (All-drop (λ bit. bit < 2) (size * first) bits h) there)
+    (All_fit-samples_from w bits (first + 1) count s h room)
+
+-- the samples of a payload fit
+pub samples_fit : (w : ℕ) (payload : List ℕ) (first count : ℕ) → 1 ≤ w → LieWithin w first count (length payload) → All (SampleFits w) (samples_from w (bits_of_bytes payload) first count)
+samples_fit w payload first zero s l = All-nil (SampleFits w)
+samples_fit w payload first (suc count) s l =
+    let room : 2 * w * (first + suc count) ≤ length (bits_of_bytes payload) = omega (arith, length-bits_of_bytes payload, l (omega arith)) in
+    All_fit-samples_from w (bits_of_bytes payload) first (suc count) s (AreBits-bits_of_bytes payload) room
