@@ -107,12 +107,16 @@ shifted number offset size high low e f =
     ∙ ap (λ n. n % 2 ^ size) (sym (shr-shr (number * 2 ^ offset) offset low))
     ∙ ap (λ n. n / 2 ^ low % 2 ^ size) (shl-shr number offset)
 
--- the items in a window that begins at bit `start` of the payload
-pub items_in : (bits : List ℕ) (number start offset size low : ℕ) → offset + size + low ≡ 64 → start + offset + size ≤ length bits → bits_of 64 number ≡ take 64 (drop start bits ++ replicate 64 0) → bits_of size (number / 2 ^ low % 2 ^ size) ≡ take size (drop (start + offset) bits)
-items_in bits number start offset size low e l w =
+-- a stretch of a window's bits, as the code cuts it out
+pub stretch_in : (number offset size low : ℕ) → offset + size + low ≡ 64 → bits_of size (number / 2 ^ low % 2 ^ size) ≡ take size (drop offset (bits_of 64 number))
+stretch_in number offset size low e =
     bits_of-mod size (number / 2 ^ low)
     ∙ sym (stretch_of offset size low number)
     ∙ ap (λ n. take size (drop offset (bits_of n number))) e
-    ∙ ap (λ bs. take size (drop offset bs)) w
-    ∙ stretch_within offset size 64 (drop start bits) (replicate 64 0) (omega arith) (omega (arith, length-drop start bits))
+
+-- a stretch of a window that begins at bit `start` of the payload
+pub window_stretch : (bits : List ℕ) (number start offset size : ℕ) → offset + size ≤ 64 → start + offset + size ≤ length bits → bits_of 64 number ≡ take 64 (drop start bits ++ replicate 64 0) → take size (drop offset (bits_of 64 number)) ≡ take size (drop (start + offset) bits)
+window_stretch bits number start offset size h l w =
+    ap (λ bs. take size (drop offset bs)) w
+    ∙ stretch_within offset size 64 (drop start bits) (replicate 64 0) h (omega (arith, length-drop start bits))
     ∙ ap (take size) (drop-drop offset start bits)
