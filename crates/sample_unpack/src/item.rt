@@ -5,7 +5,7 @@ ghost use Rattle.std.specs.Prelude.{◌≡◌, ◌*◌, ◌<◌, ◌≤◌, ◌^
 use crate::Sample;
 
 /// The number that the `width` bits of `item` spell in two's complement.
-#[inline]
+#[inline(always)]
 fn signed(item: u32, width: u32) -> i16
     requires some { 1 ≤ width }
     requires most { width ≤ 16 }
@@ -17,7 +17,7 @@ fn signed(item: u32, width: u32) -> i16
 }
 
 /// The sample that the `2 * width` bits of `items` spell.
-#[inline]
+#[inline(always)]
 pub(crate) fn sample_from(items: u32, width: u32) -> Sample
     requires some { 1 ≤ width }
     requires most { width ≤ 16 }
@@ -31,7 +31,7 @@ pub(crate) fn sample_from(items: u32, width: u32) -> Sample
 }
 
 /// The two items of a sample as one number.
-#[inline]
+#[inline(always)]
 pub(crate) fn items_of(sample: Sample, width: u32) -> u32
     requires some { 1 ≤ width }
     requires most { width ≤ 16 }
@@ -43,7 +43,7 @@ pub(crate) fn items_of(sample: Sample, width: u32) -> u32
 }
 
 /// The `width` bits of a number in two's complement.
-#[inline]
+#[inline(always)]
 fn item_of(number: i16, width: u32) -> u32
     requires some { 1 ≤ width }
     requires most { width ≤ 16 }

@@ -21,10 +21,32 @@ pub fn pack_into(samples: &[Sample], bits: u8, into: &mut [u8])
     ensures read_back { samples_from bits (bits_of_bytes into.new) 0 (length samples.now) ≡ samples.now }
     ensures again { (payload : List ℕ) (first : ℕ) → LieWithin bits first (length samples.now) (length payload) → samples.now ≡ samples_from bits (bits_of_bytes payload) first (length samples.now) → bits_from bits (bits_of_bytes into.new) 0 (length samples.now) ≡ bits_from bits (bits_of_bytes payload) first (length samples.now) }
 {
+    pack_by_width(samples, bits, into);
+}
+
+/// One loop for each width, so that the masks in it are constants.
+#[inline]
+fn pack_by_width(samples: &[Sample], bits: u8, into: &mut [u8])
+    requires some_bits { 4 ≤ bits }
+    requires most_bits { bits ≤ 16 }
+    requires fits { All (SampleFits bits) samples.now }
+    requires whole_words { length into.old ≡ 4 * words_for bits (length samples.now) }
+    ensures { bits_of_bytes into.new ≡ bits_of_samples bits samples.now ++ replicate (8 * length into.old - 2 * bits * length samples.now) 0 }
+{
     match bits {
+        4 => pack_items(samples, 4, into),
+        5 => pack_items(samples, 5, into),
+        6 => pack_items(samples, 6, into),
+        7 => pack_items(samples, 7, into),
         8 => pack_bytes(samples, into),
+        9 => pack_items(samples, 9, into),
+        10 => pack_items(samples, 10, into),
+        11 => pack_items(samples, 11, into),
+        12 => pack_items(samples, 12, into),
+        13 => pack_items(samples, 13, into),
+        14 => pack_items(samples, 14, into),
         16 => pack_halves(samples, into),
-        _ => pack_items(samples, u32::from(bits), into),
+        _ => pack_items(samples, 15, into),
     }
 }
 
@@ -54,6 +76,7 @@ fn pack_halves(samples: &[Sample], into: &mut [u8])
 }
 
 /// The samples whose items have any width: bits wait until a word is full.
+#[inline(always)]
 fn pack_items(samples: &[Sample], width: u32, into: &mut [u8])
     requires some { 1 ≤ width }
     requires most { width ≤ 16 }

@@ -4,7 +4,7 @@ ghost use Rattle.std.specs.Prelude.{◌≡◌, ◌+◌, ◌-◌, ◌*◌, ◌/�
 use byteorder::{BigEndian, ByteOrder};
 
 /// The `held` bits that wait, and behind them the `size` bits of `items`.
-#[inline]
+#[inline(always)]
 pub(crate) fn joined(waiting: u64, held: u32, items: u32, size: u32) -> u64
     requires held { held < 32 }
     requires size { size ≤ 32 }
@@ -17,7 +17,7 @@ pub(crate) fn joined(waiting: u64, held: u32, items: u32, size: u32) -> u64
 }
 
 /// The first word of the bits that wait, and the `rest` bits behind it.
-#[inline]
+#[inline(always)]
 pub(crate) fn first_word(waiting: u64, rest: u32) -> (u32, u64)
     requires rest { rest < 32 }
     requires fits { waiting < 2 ^ (32 + rest) }

@@ -1,4 +1,4 @@
-use Rattle.std.proofs.Common.{◌≡◌, ◌∙◌, ◌++◌, ap, length, take, get_or, pos, arith, rules}
+use Rattle.std.proofs.Common.{◌≡◌, ◌∙◌, ◌++◌, ap, length, take, get_or, pos, rules}
 use Rattle.sample_unpack.specs.declared.sample.Sample.{Sample}
 use Rattle.sample_unpack.proofs.Samples.{written_four, four_items}
 use Rattle.sample_unpack.proofs.unpack.put_four.Goals as goal

@@ -1,4 +1,4 @@
-use Rattle.std.proofs.Common.{◌≡◌, ℕ, List, ◌+◌, ◌-◌, ◌*◌, ◌≤◌, ◌++◌, ◌∙◌, ap, ap₂, length, drop, arith}
+use Rattle.std.proofs.Common.{◌≡◌, ℕ, List, ◌+◌, ◌-◌, ◌*◌, ◌++◌, ◌∙◌, ap, ap₂, length, drop, arith}
 use Rattle.sample_unpack.specs.Bits.{bits_of_bytes}
 use Rattle.sample_unpack.specs.Samples.{samples_from}
 use Rattle.sample_unpack.specs.declared.sample.Sample.{Sample}

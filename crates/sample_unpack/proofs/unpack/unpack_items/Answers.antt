@@ -1,4 +1,4 @@
-use Rattle.std.proofs.Common.{◌≡◌, ℕ, ◌+◌, ◌-◌, ◌*◌, ◌/◌, ◌%◌, ◌<◌, ◌≤◌, ◌++◌, ◌∙◌, sym, ap, ap₂, length, take, drop, arith}
+use Rattle.std.proofs.Common.{◌≡◌, ℕ, ◌+◌, ◌-◌, ◌*◌, ◌/◌, ◌%◌, ◌<◌, ◌≤◌, ◌++◌, ◌∙◌, ap, ap₂, length, take, drop, arith}
 use Rattle.std.proofs.lemmas.List.{take_at, length-append, length-drop, length-take-le}
 use Rattle.sample_unpack.specs.Bits.{bits_of_bytes}
 use Rattle.sample_unpack.specs.Samples.{samples_from}

@@ -1,4 +1,4 @@
-use Rattle.std.proofs.Common.{◌≡◌, ℤ, ℕ, ◌+◌, ◌*◌, ◌∙◌, ◌∷◌, ap, ap₂, sym, drop, get_or, FitsSigned, to_z, to_z-of_z, arith, rules}
+use Rattle.std.proofs.Common.{◌≡◌, ℤ, ◌+◌, ◌∙◌, ◌∷◌, ap, ap₂, sym, drop, get_or, FitsSigned, to_z-of_z, arith, rules}
 use Rattle.std.specs.Int.{w8, w16}
 use Rattle.std.proofs.lemmas.List.{drop_more}
 use Rattle.sample_unpack.specs.Bits.{bits_of_bytes}
