@@ -2,7 +2,7 @@
 use Rattle.std.proofs.Common.{◌≡◌, ℕ, zero, suc, min, ◌+◌, ◌-◌, ◌*◌, ◌/◌, ◌%◌, ◌<◌, ◌≤◌, ℤ, pos, ◌-ℤ◌, to_z, List, [], ◌∷◌, ◌++◌, length, take, drop, replicate, set, get_or, refl, sym, ap, ap₂, ◌∙◌, append_assoc, append-nil, add-zero, zero-add, suc-add, arith}
 use Rattle.std.specs.Int.{w8}
 use Rattle.std.proofs.lemmas.Int.{ints}
-use Rattle.std.proofs.lemmas.List.{take-take, drop-take, drop-drop, drop_all, take_rest, take_all, take_at, drop_at, take_more_set, length-drop, length-set, get_or-drop}
+use Rattle.std.proofs.lemmas.List.{take-take, drop-take, drop-drop, drop_all, take_rest, take_at, drop_at, take_more_set, length-drop, length-set, get_or-drop}
 use Rattle.std.proofs.lemmas.List.FromFn.{map-range_with_len_more}
 use borrow.Rule.Slice.PartMut.{put_mid}
 use Rattle.byteorder.specs.Endian.{big_from}
@@ -177,9 +177,3 @@ samples_more w bits first index into sample l e s =
     take_more_set into index sample l
     ∙ ap₂ (λ (xs : List Sample) (x : Sample). xs ++ x ∷ []) e s
     ∙ sym (map-range_with_len_more (sample_at w bits) first index (first + index) refl)
-
--- all are written
-pub samples_all : (w : ℕ) (bits : List ℕ) (first index : ℕ) (into : List Sample) → length into ≤ index → index ≤ length into → take index into ≡ samples_from w bits first index → into ≡ samples_from w bits first (length into)
-samples_all w bits first index into l m e =
-    let all : index ≡ length into = omega arith in
-    sym (take_all index into l) ∙ e ∙ ap (samples_from w bits first) all
