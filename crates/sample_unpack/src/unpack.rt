@@ -3,7 +3,7 @@ ghost use Rattle.sample_unpack.specs.Samples.{LieWithin, SampleFits, samples_fro
 ghost use Rattle.std.specs.Prelude.{◌≡◌, ◌+◌, ◌*◌, ◌<◌, ◌≤◌, ◌++◌, All, length, take, drop};
 
 use crate::Sample;
-use crate::window::{four_at, half_at, sample_at, word_at};
+use crate::window::{four_at, sample_at, sample_of_half, sample_of_word};
 
 /// Reads samples number `first`, `first + 1` and so on of `payload` into `into`, as many as it has
 /// room for. Their items have `bits` bits each and stand one after another across word boundaries,
@@ -51,7 +51,7 @@ fn unpack_bytes(payload: &[u8], first: u32, into: &mut [Sample])
 {
     let first = first as usize;
     for (index, sample) in into.iter_mut().enumerate() {
-        *sample = half_at(payload, 2 * (first + index));
+        *sample = sample_of_half(payload, 2 * (first + index));
     }
 }
 
@@ -62,7 +62,7 @@ fn unpack_halves(payload: &[u8], first: u32, into: &mut [Sample])
 {
     let first = first as usize;
     for (index, sample) in into.iter_mut().enumerate() {
-        *sample = word_at(payload, 4 * (first + index));
+        *sample = sample_of_word(payload, 4 * (first + index));
     }
 }
 

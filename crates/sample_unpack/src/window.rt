@@ -84,7 +84,7 @@ pub(crate) fn four_at(payload: &[u8], at: usize, width: u32) -> [Sample; 4]
 
 /// The sample of two bytes at `at`.
 #[inline]
-pub(crate) fn half_at(payload: &[u8], at: usize) -> Sample
+pub(crate) fn sample_of_half(payload: &[u8], at: usize) -> Sample
     requires { at + 2 ≤ length payload.now }
     ensures { result ≡ sample_of 8 (drop (8 * at) (bits_of_bytes payload.now)) }
 {
@@ -96,7 +96,7 @@ pub(crate) fn half_at(payload: &[u8], at: usize) -> Sample
 
 /// The sample of two half words at `at`.
 #[inline]
-pub(crate) fn word_at(payload: &[u8], at: usize) -> Sample
+pub(crate) fn sample_of_word(payload: &[u8], at: usize) -> Sample
     requires { at + 4 ≤ length payload.now }
     ensures { result ≡ sample_of 16 (drop (8 * at) (bits_of_bytes payload.now)) }
 {

@@ -9,5 +9,5 @@ loop-index-preserved c =
     let bits = bits_of_bytes c.args.payload.now in
     let number = c.args.first + c.loop-index.index in
     let place : 8 * (2 * number) ≡ 2 * 8 * number = omega arith in
-    samples_more 8 bits c.args.first c.loop-index.index c.loop-index.into c.half_at.result (omega arith) c.loop-index.invariant
-    (c.half_at.ensures ∙ ap (λ n. sample_of 8 (drop n bits)) place)
+    samples_more 8 bits c.args.first c.loop-index.index c.loop-index.into c.sample_of_half.result (omega arith) c.loop-index.invariant
+    (c.sample_of_half.ensures ∙ ap (λ n. sample_of 8 (drop n bits)) place)

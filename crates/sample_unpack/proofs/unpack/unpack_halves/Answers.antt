@@ -9,5 +9,5 @@ loop-index-preserved c =
     let bits = bits_of_bytes c.args.payload.now in
     let number = c.args.first + c.loop-index.index in
     let place : 8 * (4 * number) ≡ 2 * 16 * number = omega arith in
-    samples_more 16 bits c.args.first c.loop-index.index c.loop-index.into c.word_at.result (omega arith) c.loop-index.invariant
-    (c.word_at.ensures ∙ ap (λ n. sample_of 16 (drop n bits)) place)
+    samples_more 16 bits c.args.first c.loop-index.index c.loop-index.into c.sample_of_word.result (omega arith) c.loop-index.invariant
+    (c.sample_of_word.ensures ∙ ap (λ n. sample_of 16 (drop n bits)) place)

@@ -6,7 +6,7 @@ use Rattle.sample_unpack.specs.Samples.{sample_of}
 use Rattle.sample_unpack.specs.declared.sample.Sample.{Sample}
 use Rattle.sample_unpack.proofs.Bits.{drop-bits_of_bytes}
 use Rattle.sample_unpack.proofs.Samples.{sample_of_two}
-use Rattle.sample_unpack.proofs.window.half_at.Goals as goal
+use Rattle.sample_unpack.proofs.window.sample_of_half.Goals as goal
 
 pub returns : goal.returns
 returns c =

@@ -4,7 +4,7 @@ use Rattle.byteorder.specs.Endian.{big_from}
 use Rattle.sample_unpack.specs.Bits.{bits_of}
 use Rattle.sample_unpack.specs.Samples.{sample_of}
 use Rattle.sample_unpack.proofs.Samples.{sample_in_bytes}
-use Rattle.sample_unpack.proofs.window.word_at.Goals as goal
+use Rattle.sample_unpack.proofs.window.sample_of_word.Goals as goal
 
 pub returns : goal.returns
 returns c =
