@@ -85,20 +85,82 @@ fn eight_bits_are_packed_in_any_way_and_three_bits_refused(rt: HostRuntime) -> R
     Ok(())
 }
 
+// A data packet of one sample, at the base context's stamp.
+const DATA: [u32; 8] = [
+    0x1860_0008,
+    0x0000_0001,
+    0x006A_621E,
+    0x0000_0000,
+    0x6553_F100,
+    0x0000_0000,
+    0x0000_0000,
+    0x0001_0002,
+];
+
+// A version packet.
+const VERSION: [u32; 11] = [
+    0x5960_000B,
+    0x0000_0001,
+    0x006A_621E,
+    0x0001_0004,
+    0x6553_F100,
+    0x0000_0000,
+    0x0000_0000,
+    0x8000_0002,
+    0x0000_000C,
+    0x0000_0004,
+    0x0000_0000,
+];
+
+// What `check` writes of a record of one frame with a data packet whose first word is another.
+fn check_first<R: Threads + Sync>(rt: &R, alloc: Global, first: u32) -> Result<Vec<u8>, Fail> {
+    let mut words = DATA;
+    words[0] = first;
+    let bytes = datagram(alloc, &words)?;
+    check_bytes(rt, alloc, bytes.as_slice())
+}
+
 #[test]
-fn a_data_packet_is_of_no_kind_in_the_grammar(rt: HostRuntime) -> Result<(), Fail> {
-    let words = [
-        0x1860_0008,
-        1,
-        0x006A_621E,
-        0,
-        0x6553_F100,
-        0,
-        0,
-        0x0001_0002,
-    ];
+fn a_data_packet_is_accepted(rt: HostRuntime) -> Result<(), Fail> {
+    let text = check_first(&rt, rt.alloc(), 0x1860_0008)?;
+    let wanted = "frame 1 ok data stream 00000001\nframes 1 ok 1 refused 0\n";
+    assert_eq!(rt; text.as_slice(), wanted.as_bytes());
+    Ok(())
+}
+
+#[test]
+fn a_data_packet_has_header_bit_26_clear_and_at_least_8_words(rt: HostRuntime) -> Result<(), Fail> {
+    let text = check_first(&rt, rt.alloc(), 0x1C60_0008)?;
+    assert_eq!(rt; text.as_slice(), refused(rt.alloc(), 0)?.as_bytes());
+    let text = check_first(&rt, rt.alloc(), 0x1860_0007)?;
+    assert_eq!(rt; text.as_slice(), refused(rt.alloc(), 0)?.as_bytes());
+    Ok(())
+}
+
+#[test]
+fn a_longer_data_packet_is_refused_where_the_words_end(rt: HostRuntime) -> Result<(), Fail> {
+    let text = check_first(&rt, rt.alloc(), 0x1860_0009)?;
+    assert_eq!(rt; text.as_slice(), refused(rt.alloc(), 8)?.as_bytes());
+    Ok(())
+}
+
+#[test]
+fn a_version_packet_names_the_three_fields(rt: HostRuntime) -> Result<(), Fail> {
+    let mut words = VERSION;
     let bytes = datagram(rt.alloc(), &words)?;
     let text = check_bytes(&rt, rt.alloc(), bytes.as_slice())?;
+    let wanted = "frame 1 ok version stream 00000001\nframes 1 ok 1 refused 0\n";
+    assert_eq!(rt; text.as_slice(), wanted.as_bytes());
+    words[8] = 0x0000_000D;
+    let bytes = datagram(rt.alloc(), &words)?;
+    let text = check_bytes(&rt, rt.alloc(), bytes.as_slice())?;
+    assert_eq!(rt; text.as_slice(), refused(rt.alloc(), 8)?.as_bytes());
+    Ok(())
+}
+
+#[test]
+fn a_command_is_of_no_kind_in_the_grammar(rt: HostRuntime) -> Result<(), Fail> {
+    let text = check_first(&rt, rt.alloc(), 0x6800_000A)?;
     assert_eq!(rt; text.as_slice(), refused(rt.alloc(), 0)?.as_bytes());
     Ok(())
 }
