@@ -9,13 +9,9 @@ use Rattle.vrt_header.specs.Profile.{PacketProfile}
 use Rattle.vrt_header.specs.Header.{prologue_words}
 use Rattle.vrt_header.specs.Prologue.{IsPrologue}
 use Rattle.difi_context.specs.ContextLaws.{context_timed}
+use Rattle.difi_context.specs.SpellingLaws.{cif0_word}
 use Rattle.difi_context.specs.Context.{IsContext, cif0_of, fields_bits}
 use Rattle.difi_context.specs.declared.context.ContextRec.{ContextRec}
-
--- CIF0 is told by its change bit
-pub cif0_word : (word : ℕ) (changed : Bool) → word < 2 ^ 32 → changed ≡ (bits word 31 1 == 1) → bits word 0 31 ≡ fields_bits → word ≡ cif0_of changed
-cif0_word word true fits e b = grind (arith, nat_tests)
-cif0_word word false fits e b = grind (arith, nat_tests)
 
 -- the words in front are those of the packet
 pub written : (profile : PacketProfile) (rec : ContextRec) (words first second third : List ℕ) (cif0 : ℕ) → AreWords words → IsContext profile rec words

@@ -1,3 +1,4 @@
 pub mod Context
 pub mod Steps
 pub mod ContextLaws
+pub mod SpellingLaws

@@ -5,8 +5,10 @@
 mod context;
 mod encoding;
 mod fields;
+mod round_trip;
 #[cfg(test)]
 mod tests;
 
 pub use crate::context::{ContextRec, decode};
 pub use crate::encoding::encode;
+pub use crate::round_trip::one_to_one;

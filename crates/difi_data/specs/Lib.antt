@@ -1,3 +1,4 @@
 pub mod Data
 pub mod Sizes
 pub mod DataLaws
+pub mod SpellingLaws

@@ -6,18 +6,60 @@ use vrt_words::{Place, put_words};
 
 // A data packet of stream 1 at 1,700,000,000 s with one sample of 16 bits, (1, 2).
 const DATA: [u32; 8] = [
-    0x1860_0008, 1, 0x006A_621E, 0, 0x6553_F100, 0, 0, 0x0001_0002,
+    0x1860_0008,
+    1,
+    0x006A_621E,
+    0,
+    0x6553_F100,
+    0,
+    0,
+    0x0001_0002,
 ];
 
 // A context of stream 1 at 350,000 Hz, with items of 16 bits.
 const CONTEXT: [u32; 27] = [
-    0x4960_001B, 1, 0x006A_621E, 1, 0x6553_F100, 0, 0, 0xFBB9_8000, 0, 0, 0, 0, 0, 0, 0, 0, 0, 0, 0,
-    0x0000_0055, 0x7300_0000, 0, 0, 0, 0, 0xA000_03CF, 0,
+    0x4960_001B,
+    1,
+    0x006A_621E,
+    1,
+    0x6553_F100,
+    0,
+    0,
+    0xFBB9_8000,
+    0,
+    0,
+    0,
+    0,
+    0,
+    0,
+    0,
+    0,
+    0,
+    0,
+    0,
+    0x0000_0055,
+    0x7300_0000,
+    0,
+    0,
+    0,
+    0,
+    0xA000_03CF,
+    0,
 ];
 
 // A version packet of stream 1, changed, with specification version 4.
 const VERSION: [u32; 11] = [
-    0x5960_000B, 1, 0x006A_621E, 0x0001_0004, 0x6553_F100, 0, 0, 0x8000_0002, 12, 4, 0,
+    0x5960_000B,
+    1,
+    0x006A_621E,
+    0x0001_0004,
+    0x6553_F100,
+    0,
+    0,
+    0x8000_0002,
+    12,
+    4,
+    0,
 ];
 
 // Whether these words are a packet, and what is written of it is the same bytes.

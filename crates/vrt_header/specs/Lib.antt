@@ -4,3 +4,4 @@ pub mod Prologue
 pub mod Steps
 pub mod PrologueLaws
 pub mod Spelling
+pub mod SpellingLaws

@@ -5,6 +5,7 @@
 mod header;
 mod profile;
 mod prologue;
+mod round_trip;
 mod spelling;
 #[cfg(test)]
 mod tests;
@@ -12,4 +13,5 @@ mod tests;
 pub use crate::header::{Header, Kind};
 pub use crate::profile::Profile;
 pub use crate::prologue::{Prologue, read_prologue};
+pub use crate::round_trip::one_to_one;
 pub use crate::spelling::write_prologue;

@@ -8,7 +8,8 @@ use Rattle.vrt_words.specs.Begins.{IsDatagram}
 use Rattle.vrt_words.specs.WordLaws.{AreWords-take}
 use Rattle.difi_data.specs.Data.{IsData, packet_of}
 use Rattle.difi_data.specs.DataLaws.{seven_words}
-use Rattle.difi_data.proofs.Spelling.{payload_size, row_datagram, one_datagram, AreBytes-take}
+use Rattle.vrt_words.specs.WordLaws.{AreBytes-take}
+use Rattle.difi_data.specs.SpellingLaws.{payload_size, row_datagram, one_datagram}
 use Rattle.difi_data.proofs.packet.encode.Goals as goal
 
 pub write_prologue-requires-clause-spelled : goal.write_prologue-requires-clause-spelled

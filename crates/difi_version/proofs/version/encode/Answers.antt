@@ -5,7 +5,8 @@ use Rattle.vrt_words.specs.Words.{words_of}
 use Rattle.vrt_words.specs.WordLaws.{AreWords-take}
 use Rattle.difi_version.specs.Version.{IsVersion}
 use Rattle.difi_version.specs.VersionLaws.{seven_words}
-use Rattle.difi_version.proofs.Spelling.{spelled, cif0_word, replaced, datagram, one_datagram, AreBytes-take}
+use Rattle.vrt_words.specs.WordLaws.{AreBytes-take}
+use Rattle.difi_version.specs.SpellingLaws.{spelled, cif0_word, replaced, datagram, one_datagram}
 use Rattle.difi_version.proofs.version.encode.Goals as goal
 
 pub write_prologue-requires-clause-spelled : goal.write_prologue-requires-clause-spelled

@@ -7,7 +7,7 @@ use Rattle.vrt_words.specs.WordLaws.{words_of-words, words_of-take, words_of-app
 use Rattle.vrt_header.specs.Profile.{PacketProfile}
 use Rattle.difi_data.specs.Data.{DataPacket, IsData}
 use Rattle.difi_data.specs.DataLaws.{seven_words}
-use Rattle.difi_data.proofs.OneSpelling.{one_front}
+use Rattle.vrt_header.specs.SpellingLaws.{one_front}
 
 -- the words of a packet are its prologue's, and its payload's
 pub spelled : (profile : PacketProfile) (packet : DataPacket) (words : List ℕ) → IsData profile packet words → take 7 words ++ words_of packet.payload ≡ words
@@ -37,12 +37,6 @@ row_datagram profile packet bytes words h room front =
       whole = omega (arith, length-append (take 28 bytes) packet.payload, length-take-le 28 bytes room, payload_size profile packet words h, ap length same, h.size);
       packet = subst (IsData profile packet) (sym same) h;
     }
-
-pub AreBytes-take : (n : ℕ) (xs : List ℕ) → AreBytes xs → AreBytes (take n xs)
-AreBytes-take zero xs p i = omega arith
-AreBytes-take (suc n) [] p i = omega arith
-AreBytes-take (suc n) (x ∷ xs) p zero = p 0
-AreBytes-take (suc n) (x ∷ xs) p (suc i) = AreBytes-take n xs (λ k. p (suc k)) i
 
 -- a packet is spelled by one list of words
 one_words : (profile : PacketProfile) (packet : DataPacket) (a b : List ℕ) → AreWords a → AreWords b → IsData profile packet a → IsData profile packet b → a ≡ b

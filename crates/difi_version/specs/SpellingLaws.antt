@@ -8,7 +8,7 @@ use Rattle.vrt_words.specs.Begins.{IsDatagram}
 use Rattle.vrt_words.specs.WordLaws.{words_of-words, words_of-take, one_spelling, AreWords-take}
 use Rattle.vrt_header.specs.Profile.{PacketProfile}
 use Rattle.difi_version.specs.Version.{IsVersion}
-use Rattle.difi_version.proofs.OneSpelling.{same_bit, one_front}
+use Rattle.vrt_header.specs.SpellingLaws.{same_bit, one_front}
 use Rattle.difi_version.specs.declared.version.VersionRec.{VersionRec}
 
 -- the words of a packet are its prologue's, and four more
@@ -31,12 +31,6 @@ cif0_word false byte word b fits e low = let clear : bits word 31 1 ≢ 1 = eqb-
 pub replaced : (front row old new words : List ℕ) (n : ℕ) → new ≡ front ++ (row ++ old) → front ++ row ≡ words → length words ≡ n → take n new ≡ words
 replaced front row old new words n e same size =
     ap (take n) (e ∙ sym (append_assoc front row old)) ∙ take_at (front ++ row) old n (ap length same ∙ size) ∙ same
-
-pub AreBytes-take : (n : ℕ) (xs : List ℕ) → AreBytes xs → AreBytes (take n xs)
-AreBytes-take zero xs p i = omega arith
-AreBytes-take (suc n) [] p i = omega arith
-AreBytes-take (suc n) (x ∷ xs) p zero = p 0
-AreBytes-take (suc n) (x ∷ xs) p (suc i) = AreBytes-take n xs (λ k. p (suc k)) i
 
 -- the bytes of some first words are a datagram of these words
 pub datagram : {V : Type 0} (IsPacket : V → List ℕ → Type 0) (v : V) (n : ℕ) (bytes words : List ℕ) → 4 * n ≤ length bytes → length words ≡ n
