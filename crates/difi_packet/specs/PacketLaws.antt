@@ -1,11 +1,11 @@
 -- Laws of packets: the packet type tells the kind, and what is refused by its kind is refused by all.
-use Rattle.std.proofs.Common.{◌≡◌, ◌≢◌, ℕ, suc, ◌<◌, ◌≤◌, List, [], ◌∷◌, ◌++◌, length, take, get_or, refl, sym, ap, ◌∙◌, subst, arith}
+use Rattle.std.proofs.Common.{◌≡◌, ◌≢◌, ℕ, suc, ◌<◌, List, [], ◌∷◌, ◌++◌, length, take, get_or, refl, sym, ap, ◌∙◌, arith}
 use Rattle.std.proofs.lemmas.List.{get_or-take}
 use Rattle.vrt_words.specs.Words.{words_of, bits}
-use Rattle.vrt_words.specs.Begins.{IsDatagram, IsRefused}
+use Rattle.vrt_words.specs.Begins.{IsRefused}
 use Rattle.vrt_words.specs.BeginLaws.{begun_words}
 use Rattle.vrt_header.specs.Profile.{PacketProfile}
-use Rattle.vrt_header.specs.Header.{IsKind, type_of}
+use Rattle.vrt_header.specs.Header.{type_of}
 use Rattle.vrt_header.specs.Prologue.{IsPrologue}
 use Rattle.vrt_header.specs.declared.header.Kind.{Kind}
 use Rattle.vrt_header.specs.declared.prologue.Prologue.{Prologue}

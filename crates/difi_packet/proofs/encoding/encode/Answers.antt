@@ -1,7 +1,7 @@
 -- What the kind's encoder writes is the packet.
-use Rattle.std.proofs.Common.{◌≡◌, sym, subst, take}
+use Rattle.std.proofs.Common.{take}
 use Rattle.vrt_words.specs.Begins.{IsDatagram}
-use Rattle.difi_packet.specs.Packet.{PacketValue, ContextValue, VersionValue, IsPacket, value_of}
+use Rattle.difi_packet.specs.Packet.{ContextValue, IsPacket}
 use Rattle.difi_packet.proofs.encoding.encode.Goals as goal
 
 pub returns-in-Context-clause-packet : goal.returns-in-Context-clause-packet

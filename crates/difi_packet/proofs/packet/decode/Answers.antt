@@ -1,7 +1,7 @@
 -- The packet type tells the kind, and the place is that of the kind.
-use Rattle.std.proofs.Common.{ap, ◌∙◌, arith}
+use Rattle.std.proofs.Common.{arith}
 use Rattle.vrt_words.specs.Words.{words_of}
-use Rattle.difi_packet.specs.Packet.{DataValue, ContextValue, VersionValue}
+use Rattle.difi_packet.specs.Packet.{ContextValue}
 use Rattle.difi_packet.specs.PacketLaws.{data_place, context_place, version_place, one_packet, other_type, no_word}
 use Rattle.difi_packet.proofs.packet.decode.Goals as goal
 use Rattle.difi_packet.proofs.packet.decode.Goals.{in_default-via-in-Some+in_default, in_default-via-in_default}
