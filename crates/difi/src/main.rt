@@ -4,10 +4,9 @@
 
 use difi_cmd::{Status, difi_run};
 use difi_io::{NoGate, StdSink, StdSource};
-use std::env;
-use std::io;
 use std::io::ErrorKind;
 use std::process::ExitCode;
+use std::{env, io};
 
 fn main(rt: HostRuntime) -> ExitCode {
     let status = match words(&rt) {
