@@ -1,0 +1,5 @@
+pub mod Line
+pub mod Marks
+pub mod Cut
+pub mod LineLaws
+pub mod CutLaws
