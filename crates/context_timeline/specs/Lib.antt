@@ -3,3 +3,5 @@ pub mod Marks
 pub mod Cut
 pub mod LineLaws
 pub mod CutLaws
+pub mod AllContexts
+pub mod AllContextsLaws

@@ -4,6 +4,8 @@
 
 mod mark;
 mod search;
+#[cfg(test)]
+mod tests;
 mod timed_context;
 mod timeline;
 

@@ -4,6 +4,7 @@ ghost use Rattle.difi_context.specs.Context.{IsInGrammar};
 ghost use Rattle.context_timeline.specs.declared.timed_context.TimedContext.{TimedContext};
 ghost use Rattle.context_timeline.specs.Line.{line_of, with_context, timed_context, stamp_in, horizon_of};
 ghost use Rattle.context_timeline.specs.Marks.{mark_in, next_stamp};
+ghost use Rattle.context_timeline.specs.AllContexts.{IsMark};
 
 use crate::mark::Mark;
 use crate::search::{count_not_after, mark_and_next};
@@ -73,7 +74,11 @@ impl Timeline {
 
     /// What the contexts say of a moment.
     pub fn mark(&self, moment: Moment) -> Mark
-        ensures { result ≡ mark_in self.now moment }
+        ensures mark { result ≡ mark_in self.now moment }
+
+        // Over all contexts that were ever added.
+        ensures history { (contexts : List TimedContext) → self.now ≡ line_of self.now.limit contexts
+            → IsMark self.now.limit contexts moment result }
     {
         self.mark_until(moment).0
     }
@@ -86,6 +91,8 @@ impl Timeline {
         ensures until { result.1 ≡ next_stamp self.now.kept moment }
         ensures same { (later : ℕ) → moment ≤ later → IfSome result.1 (λ stamp. later < moment_of stamp)
             → mark_in self.now later ≡ result.0 }
+        ensures history { (contexts : List TimedContext) → self.now ≡ line_of self.now.limit contexts
+            → IsMark self.now.limit contexts moment result.0 }
     {
         let count = count_not_after(&self.kept, moment);
         mark_and_next(&self.kept, self.added, count)
