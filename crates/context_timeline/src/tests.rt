@@ -1,12 +1,12 @@
-ghost use Rattle.std.specs.Prelude.{◌≡◌, ◌+◌, ◌<◌, IfOk, OnOk};
+ghost use Rattle.std.specs.Prelude.{◌≡◌, ◌+◌, ◌<◌, ◌↔◌, IsTrue, IfOk, OnOk};
+ghost use Rattle.vrt_time.specs.Time.{moment_of};
 ghost use Rattle.difi_context.specs.Context.{IsInGrammar};
 
 use super::*;
 use difi_context::{ContextRec, decode};
-use std::process::Abort;
 use std::test::Fail;
 use vrt_header::Profile;
-use vrt_time::Moment;
+use vrt_time::{Moment, Stamp};
 use vrt_words::{Place, put_word};
 
 /// The change bit and the twelve fields, and the fields alone.
@@ -39,40 +39,51 @@ fn context(second: u8, cif0: u32, gain: u32) -> Result<ContextRec, Place>
     }
 }
 
-// Adds it where it is above the horizon, and ends the test elsewhere.
-fn add_above(rt: &impl Abort, timeline: &mut Timeline, rec: &ContextRec, lost: u8)
+fn is_above(horizon: Stamp, stamp: Stamp) -> bool
+    ensures { IsTrue result ↔ (moment_of horizon < moment_of stamp) }
+{
+    horizon.moment() < stamp.moment()
+}
+
+// Adds it where it is above the horizon.
+fn add_above(timeline: &mut Timeline, rec: &ContextRec, lost: u8) -> Result<(), Fail>
     requires grammar { IsInGrammar rec.now }
     requires few { timeline.old.added < 100 }
-    ensures { timeline.new.added ≡ timeline.old.added + 1 }
+    ensures { OnOk result (timeline.new.added ≡ timeline.old.added + 1) }
 {
     match timeline.horizon() {
         Some(horizon) => {
-            assert!(rt; horizon.moment() < rec.stamp().moment());
+            if !is_above(horizon, rec.stamp()) {
+                return Err(Fail::from("not above the horizon"));
+            }
             timeline.add(rec, lost);
+            Ok(())
         }
-        None => timeline.add(rec, lost),
+        None => {
+            timeline.add(rec, lost);
+            Ok(())
+        }
     }
 }
 
 // Adds a context, and gives its fields.
 fn add(
-    rt: &impl Abort,
     timeline: &mut Timeline,
     second: u8,
     cif0: u32,
     gain: u32,
     lost: u8,
-) -> Result<[u32; 19], Place>
+) -> Result<[u32; 19], Fail>
     requires { timeline.old.added < 100 }
     ensures { OnOk result (timeline.new.added ≡ timeline.old.added + 1) }
 {
     match context(second, cif0, gain) {
         Ok(rec) => {
-            add_above(rt, timeline, &rec, lost);
+            add_above(timeline, &rec, lost)?;
             let fields = rec.fields;
             Ok(fields)
         }
-        Err(place) => Err(place),
+        Err(_) => Err(Fail::from("no context")),
     }
 }
 
@@ -92,8 +103,8 @@ fn nothing_is_said_before_any_context(rt: HostRuntime) -> Result<(), Fail> {
 #[test]
 fn a_moment_is_bound_between_two_contexts(rt: HostRuntime) -> Result<(), Fail> {
     let mut timeline = Timeline::open(rt.alloc(), 4)?;
-    let fields = add(&rt, &mut timeline, 1, CHANGED, 0, 0)?;
-    add(&rt, &mut timeline, 2, CHANGED, 0x600, 0)?;
+    let fields = add(&mut timeline, 1, CHANGED, 0, 0)?;
+    add(&mut timeline, 2, CHANGED, 0x600, 0)?;
     let bound = Mark::Bound { place: 0, fields };
     let (mark, until) = timeline.mark_until(at(1));
     assert_eq!(rt; mark, bound);
@@ -110,12 +121,12 @@ fn a_moment_is_bound_between_two_contexts(rt: HostRuntime) -> Result<(), Fail> {
 #[test]
 fn the_fifth_context_of_four_drops_the_first(rt: HostRuntime) -> Result<(), Fail> {
     let mut timeline = Timeline::open(rt.alloc(), 4)?;
-    add(&rt, &mut timeline, 1, CHANGED, 0, 0)?;
-    add(&rt, &mut timeline, 2, CHANGED, 0, 0)?;
-    add(&rt, &mut timeline, 3, CHANGED, 0, 0)?;
-    add(&rt, &mut timeline, 4, CHANGED, 0, 0)?;
+    add(&mut timeline, 1, CHANGED, 0, 0)?;
+    add(&mut timeline, 2, CHANGED, 0, 0)?;
+    add(&mut timeline, 3, CHANGED, 0, 0)?;
+    add(&mut timeline, 4, CHANGED, 0, 0)?;
     assert!(rt; !timeline.has_dropped());
-    add(&rt, &mut timeline, 5, CHANGED, 0, 0)?;
+    add(&mut timeline, 5, CHANGED, 0, 0)?;
     assert!(rt; timeline.has_dropped());
     assert_eq!(rt; timeline.mark(at(1)), Mark::TimelineFull);
     Ok(())
@@ -124,11 +135,11 @@ fn the_fifth_context_of_four_drops_the_first(rt: HostRuntime) -> Result<(), Fail
 #[test]
 fn one_loss_that_changed_nothing_is_healed(rt: HostRuntime) -> Result<(), Fail> {
     let mut timeline = Timeline::open(rt.alloc(), 8)?;
-    let fields = add(&rt, &mut timeline, 1, CHANGED, 0, 0)?;
-    add(&rt, &mut timeline, 2, UNCHANGED, 0, 1)?;
-    add(&rt, &mut timeline, 3, CHANGED, 0, 1)?;
-    add(&rt, &mut timeline, 4, UNCHANGED, 0x600, 1)?;
-    add(&rt, &mut timeline, 5, UNCHANGED, 0x600, 2)?;
+    let fields = add(&mut timeline, 1, CHANGED, 0, 0)?;
+    add(&mut timeline, 2, UNCHANGED, 0, 1)?;
+    add(&mut timeline, 3, CHANGED, 0, 1)?;
+    add(&mut timeline, 4, UNCHANGED, 0x600, 1)?;
+    add(&mut timeline, 5, UNCHANGED, 0x600, 2)?;
     assert_eq!(rt; timeline.mark(at(1)), Mark::Bound { place: 0, fields });
     assert_eq!(rt; timeline.mark(at(2)), Mark::Lost(1));
     assert_eq!(rt; timeline.mark(at(3)), Mark::Lost(1));
