@@ -151,3 +151,49 @@ cut_later kept t u n rise h le until = record {
 pub mark_in_later : (line : Line) (t u n : ℕ) → IsRising (moments line.kept) → IsCut (moments line.kept) t n → t ≤ u
     → IfSome (stamp_at line.kept n) (λ stamp. u < moment_of stamp) → mark_in line u ≡ mark_at_cut line n
 mark_in_later line t u n rise h le until = mark_in_cut line u n (cut_later line.kept t u n rise h le until)
+
+-- ---- rising moments are cut somewhere
+
+front_more : (x : ℕ) (xs : List ℕ) (t n : ℕ) → x ≤ t → ((k : ℕ) → k < n → get_or xs k 0 ≤ t) → (k : ℕ) → k < suc n → get_or (x ∷ xs) k 0 ≤ t
+front_more x xs t n le front zero lt = le
+front_more x xs t n le front (suc k) lt = front k (omega arith)
+
+behind_more : (x : ℕ) (xs : List ℕ) (t n : ℕ) → ((k : ℕ) → n ≤ k → k < length xs → t < get_or xs k 0) → (k : ℕ) → suc n ≤ k → k < length (x ∷ xs) → t < get_or (x ∷ xs) k 0
+behind_more x xs t n behind zero ge there = absurd (omega arith)
+behind_more x xs t n behind (suc k) ge there = behind k (omega arith) (omega arith)
+
+all_behind : (x : ℕ) (xs : List ℕ) (t : ℕ) → IsRising (x ∷ xs) → t < x → (k : ℕ) → 0 ≤ k → k < length (x ∷ xs) → t < get_or (x ∷ xs) k 0
+all_behind x xs t h lt zero ge there = lt
+all_behind x xs t h lt (suc k) ge there = omega (arith, lt, h.rising 0 (suc k) (omega arith) there)
+
+rising_rest : (x : ℕ) (xs : List ℕ) → IsRising (x ∷ xs) → IsRising xs
+rising_rest x xs h = record { rising = λ i j lt there. h.rising (suc i) (suc j) (omega arith) (omega arith) }
+
+pub cut_of : (times : List ℕ) (t : ℕ) → IsRising times → (n : ℕ) × IsCut times t n
+cut_of [] t h = (
+  0,
+  record {
+    within = omega arith;
+    before = λ k lt. absurd (omega arith);
+    behind = λ k ge there. absurd (omega arith);
+  },
+)
+cut_of (x ∷ xs) t h = elim (cases_lt t x) [
+  | inl lt ↦ (
+    0,
+    record {
+      within = omega arith;
+      before = λ k none. absurd (omega arith);
+      behind = all_behind x xs t h lt;
+    },
+  )
+  | inr le ↦
+      let rest = cut_of xs t (rising_rest x xs h) in (
+        suc rest.0,
+        record {
+          within = omega (arith, rest.1.within);
+          before = front_more x xs t rest.0 le rest.1.before;
+          behind = behind_more x xs t rest.0 rest.1.behind;
+        },
+      )
+]

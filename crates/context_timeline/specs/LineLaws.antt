@@ -4,6 +4,7 @@ use Rattle.std.proofs.lemmas.Bool.{cases_lt}
 use Rattle.std.proofs.lemmas.List.{drop-append-le, drop-drop, drop-map, map-append, length-map, get_or-drop, get_or-append_right, get_or_append_left, get_or-map}
 use Rattle.std.proofs.lemmas.Option.{slice_get_cases, get_or_from_slice_get}
 use Rattle.circular_buffer.specs.Buffer.{keep_last, last_item}
+use Rattle.circular_buffer.proofs.Places.{slice_get-drop}
 use Rattle.vrt_time.specs.Time.{moment_of}
 use Rattle.context_timeline.specs.declared.timed_context.TimedContext.{TimedContext}
 use Rattle.context_timeline.specs.Line.{Line, IsLine, IsRising, line_of, line_of_kept, with_context, horizon_of, moments}
@@ -90,3 +91,19 @@ IsLine-with_context line context h above =
       number = omega (arith, length-drop m xs, h.number, h.limit);
       rising = subst IsRising kept (rising-drop m (moments xs) (subst IsRising (sym joined) grown));
     }
+
+-- the last of the kept is the last of all
+pub last_item-keep_last : {X : Type 0} (limit : ℕ) (xs : List X) → 0 < limit → last_item (keep_last limit xs) ≡ last_item xs
+last_item-keep_last limit xs some =
+    let m = length xs - limit in
+    let long = length-drop m xs in
+    elim (slice_get_cases xs (length xs - 1)).1 [
+      | inl last ↦ slice_get-drop m xs (length (drop m xs) - 1) (length xs - 1) (omega arith)
+      | inr none ↦ slice_get-drop m xs (length (drop m xs) - 1) (length xs - 1) (omega arith)
+    ]
+
+-- the horizon is the stamp of the last context that was added
+pub horizon_of-line_of : (limit : ℕ) (contexts : List TimedContext) → 0 < limit
+    → horizon_of (line_of limit contexts) ≡ option_map (λ context. context.stamp) (last_item contexts)
+horizon_of-line_of limit contexts some =
+    ap (λ (o : Option TimedContext). option_map (λ context. context.stamp) o) (last_item-keep_last limit contexts some)
