@@ -17,13 +17,13 @@ AllKeptAfter limit contexts t = (number : ℕ) → IsKept limit contexts number 
 abbrev pub NoKeptAfter : ℕ → List TimedContext → ℕ → Type 0
 NoKeptAfter limit contexts t = (number : ℕ) → IsKept limit contexts number → slice_index (moments contexts) number ≤ t
 
--- nothing that was lost between a and b makes a difference: nothing was lost, or one context was, and b says that
--- nothing changed and has the same fields
+-- one context was lost between a and b, b says that nothing changed, and their fields are equal
 pub record IsSame (a b : TimedContext) : Type 0 where
   pub one : b.lost ≡ 1
   pub unchanged : b.changed ≡ false
   pub fields : a.fields ≡ b.fields
 
+-- nothing was lost between a and b, or what was lost made no difference
 abbrev pub IsWhole : TimedContext → TimedContext → Type 0
 IsWhole a b = (b.lost ≡ 0) ⊎ IsSame a b
 
@@ -35,6 +35,7 @@ pub record IsBetween (limit : ℕ) (contexts : List TimedContext) (t number : �
   pub reached : moment_of a.stamp ≤ t
   pub not_yet : t < moment_of b.stamp
 
+-- between a and b, where n were lost, and it may have made a difference
 pub record IsLost (limit : ℕ) (contexts : List TimedContext) (t n : ℕ) : Type 0 where
   pub number : ℕ
   pub a : TimedContext
@@ -43,6 +44,7 @@ pub record IsLost (limit : ℕ) (contexts : List TimedContext) (t n : ℕ) : Typ
   pub lost : n ≡ b.lost
   pub not_whole : ¬ IsWhole a b
 
+-- between a and b, where nothing that was lost made a difference: a is in force
 pub record IsBound (limit : ℕ) (contexts : List TimedContext) (t number : ℕ) (fields : List ℕ) : Type 0 where
   pub a : TimedContext
   pub b : TimedContext
