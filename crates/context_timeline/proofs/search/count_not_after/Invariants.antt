@@ -1,0 +1,12 @@
+use Rattle.std.proofs.Common.{◌-◌, ◌<◌, ◌≤◌, length, slice_index, ℕ}
+use Rattle.context_timeline.specs.Line.{moments}
+use Rattle.context_timeline.proofs.search.count_not_after.Given as goal
+
+abbrev pub invariant-loop-low : goal.invariant-loop-low
+invariant-loop-low l =
+    (l.low ≤ l.high) × (l.high ≤ length l.kept.items)
+    × ((k : ℕ) → k < l.low → slice_index (moments l.kept.items) k ≤ l.moment)
+    × ((k : ℕ) → l.high ≤ k → k < length (moments l.kept.items) → l.moment < slice_index (moments l.kept.items) k)
+
+abbrev pub decreases-loop-low : goal.decreases-loop-low
+decreases-loop-low l = l.high - l.low
