@@ -1,0 +1,16 @@
+//! The reorder window of a stream: it puts packets that arrive out of order, or twice, into the
+//! order of their stamps, and counts those that were lost between them.
+#![tactic(auto)]
+
+mod arrival;
+mod entry;
+mod held_item;
+mod judge;
+mod release;
+#[cfg(test)]
+mod tests;
+mod window;
+
+pub use crate::arrival::Arrival;
+pub use crate::held_item::HeldItem;
+pub use crate::window::Window;
