@@ -279,3 +279,20 @@ module _ {T : Type 0} where
   pub drained-stands : (w : Holding T) (h : List (Entry T)) (k : ℕ) (after : List (Entry T)) (now : Option Last) (given : Option (TimeStamp × ℕ × T)) → StandsFor w h k → IfSome given (IsGiven w.held w.last after now) → OnSome given (StandsFor (record { size = w.size; held = after; last = now }) h (k + 1))
   drained-stands w h k after now None s g = search rules
   drained-stands w h k after now (Some r) s g = (drained-defined w (record { size = w.size; held = after; last = now }) h k r s refl g).0
+
+  accepted-none : (size : ℕ) → accepted {T = T} size [] ≡ []
+  unfolding accepted
+  accepted-none size = refl
+
+  take-none : (n : ℕ) → (take {A = Entry T} n [] ≡ []) × (drop {A = Entry T} n [] ≡ [])
+  take-none zero = (refl, refl)
+  take-none (suc n) = (refl, refl)
+
+  -- an opened window has had no arrivals
+  pub opened : (w : Holding T) → w.held ≡ [] → w.last ≡ None → StandsFor w [] 0
+  opened w e l =
+      let none : accepted w.size [] ≡ [] = accepted-none w.size in
+      kept_for w [] (e ∙ sym (rw none (take-none w.size).0)) (l ∙ ap last_of (sym (drop-none w none)))
+    where
+      drop-none : (w : Holding T) → accepted {T = T} w.size [] ≡ [] → drop w.size (accepted {T = T} w.size []) ≡ []
+      drop-none w none = rw none (take-none w.size).1
