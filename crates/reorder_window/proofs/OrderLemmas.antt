@@ -1,11 +1,10 @@
 -- Lists of packets whose stamps fall.
-use Rattle.std.proofs.Common.{◌≡◌, ℕ, ◌+◌, ◌-◌, ◌<◌, ◌≤◌, Bool, true, false, cond, not, ◌&&◌, ◌==◌, eqb, nat_lt, nat_le, nat_eq, List, [], ◌∷◌, ◌++◌, length, take, drop, fold, find, insert, slice_get, Option, Some, None, is_none, refl, sym, ap, ◌∙◌, add-one, suc, zero, ◌⊎◌, inl, inr, take-append-drop, arith}
-use Rattle.std.proofs.lemmas.Grind.{common_steps}
+use Rattle.std.proofs.Common.{◌≡◌, ℕ, ◌<◌, ◌≤◌, true, false, cond, eqb, nat_lt, nat_le, List, [], ◌∷◌, ◌++◌, length, take, drop, insert, Some, None, refl, sym, ap, ◌∙◌, add-one, suc, zero, ◌⊎◌, inl, inr, take-append-drop, arith}
 use Rattle.std.proofs.lemmas.Bool.Decides.{nat_tests, leb_tells, eqb_tells}
-use Rattle.vrt_time.specs.Time.{TimeStamp, moment_of}
+use Rattle.vrt_time.specs.Time.{moment_of}
 use Rattle.reorder_window.specs.declared.entry.Entry.{Entry}
-use Rattle.reorder_window.specs.Window.{first_stamp, boundary, is_late, twin, is_accepted, in_place, with_arrival, accepted}
-use Rattle.reorder_window.specs.Steps.{number_above, of_stamp, found}
+use Rattle.reorder_window.specs.Window.{boundary, is_late, twin, in_place}
+use Rattle.reorder_window.specs.Steps.{number_above, found}
 
 pub ltb-false : (a b : ℕ) → b ≤ a → nat_lt a b ≡ false
 ltb-false a b h = grind (arith, nat_tests)

@@ -1,17 +1,17 @@
 -- A step of a window, against the whole list of arrivals.
-use Rattle.std.proofs.Common.{◌≡◌, ℕ, ◌+◌, ◌-◌, ◌<◌, ◌≤◌, min, Bool, true, false, cond, not, ◌&&◌, ◌==◌, nat_lt, nat_le, List, [], ◌∷◌, ◌++◌, length, take, drop, fold, insert, Option, Some, None, is_none, IfSome, OnSome, rules, refl, sym, ap, subst, ◌∙◌, add-one, suc, zero, ◌⊎◌, inl, inr, take-append-drop, length-append, length-take, length-take-le, take_all, append_assoc, arith}
+use Rattle.std.proofs.Common.{◌≡◌, ℕ, ◌+◌, ◌-◌, ◌<◌, ◌≤◌, min, Bool, true, false, cond, not, ◌&&◌, List, [], ◌∷◌, ◌++◌, length, take, drop, fold, insert, Option, Some, None, is_none, IfSome, OnSome, rules, refl, sym, ap, ◌∙◌, suc, zero, inl, inr, take-append-drop, length-append, length-take-le, arith}
 use Rattle.std.proofs.lemmas.Grind.{common_steps}
 use Rattle.std.proofs.lemmas.Bool.Decides.{leb_tells}
-use Rattle.std.proofs.lemmas.List.{append-nil, take-append-le, drop-append-le}
+use Rattle.std.proofs.lemmas.List.{append-nil}
 use Rattle.std.proofs.lemmas.List.Sums.{fold-append}
 use Rattle.vrt_time.specs.Time.{TimeStamp, moment_of}
 use Rattle.reorder_window.specs.declared.entry.Entry.{Entry}
 use Rattle.reorder_window.specs.declared.entry.Last.{Last}
 use Rattle.reorder_window.specs.declared.arrival.Arrival.{Arrival}
-use Rattle.reorder_window.specs.declared.arrival.Arrival.TheVariants.{Kept, Released, Late, Repeat, Conflict}
-use Rattle.reorder_window.specs.Window.{first_stamp, boundary, is_late, twin, is_accepted, in_place, with_arrival, accepted, number_held, held, released, lost_before, answer_twin, answer_accepted, answer_above, answer_by, answer, release, in_order, releases, released_by}
+use Rattle.reorder_window.specs.declared.arrival.Arrival.TheVariants.{Released, Late, Repeat, Conflict}
+use Rattle.reorder_window.specs.Window.{first_stamp, boundary, is_late, twin, in_place, with_arrival, accepted, number_held, held, released, lost_before, answer_twin, answer_accepted, answer_above, answer_by, answer, release, in_order, releases, released_by}
 use Rattle.reorder_window.specs.State.{Holding, last_of, StandsFor}
-use Rattle.reorder_window.specs.Steps.{late_by, lost_after, number_above, found, IsRepeated, IsContradicted, IsFresh, IsGiven, IsKept, IsReleased}
+use Rattle.reorder_window.specs.Steps.{late_by, lost_after, found, IsRepeated, IsContradicted, IsFresh, IsGiven, IsKept, IsReleased}
 use Rattle.reorder_window.proofs.OrderLemmas.{AreBelow, AreFalling, ltb-false, leb-true, in_place-falling, twin-found, twin-take, insert-in_place, in_place-take, length-in_place, ltb_tells}
 
 module _ {T : Type 0} where

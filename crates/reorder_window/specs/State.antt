@@ -1,6 +1,5 @@
 -- What a contract sees of a window, and what it stands for.
-use Rattle.std.specs.Prelude.{◌≡◌, ℕ, ◌≤◌, ◌<◌, List, [], ◌∷◌, Option, Some, None, option_map, refl}
-use Rattle.vrt_time.specs.Time.{TimeStamp}
+use Rattle.std.specs.Prelude.{◌≡◌, ℕ, ◌≤◌, ◌<◌, List, [], ◌∷◌, Option, Some, None}
 use Rattle.reorder_window.specs.declared.entry.Entry.{Entry}
 use Rattle.reorder_window.specs.declared.entry.Last.{Last}
 use Rattle.reorder_window.specs.Window.{held, released}

@@ -1,4 +1,4 @@
-ghost use Rattle.std.specs.Prelude.{◌≡◌, Bool, bytes_eq};
+ghost use Rattle.std.specs.Prelude.{◌≡◌, ◌↔◌, Bool, bytes_eq, IsTrue};
 
 use difi_context::ContextRec;
 use vrt_words::PacketBuf;
@@ -16,7 +16,10 @@ pub trait HeldItem {
 impl HeldItem for PacketBuf {
     ghost is_same = { λ a b. bytes_eq a.bytes b.bytes };
 
-    fn same(&self, other: &Self) -> bool {
+    fn same(&self, other: &Self) -> bool
+        ensures test { result ≡ bytes_eq self.now.bytes other.now.bytes }
+        ensures equal { IsTrue result ↔ (self.now.bytes ≡ other.now.bytes) }
+    {
         self.bytes() == other.bytes()
     }
 }

@@ -1,4 +1,4 @@
-use Rattle.std.proofs.Common.{rules, sym, ap, ◌∙◌, refl}
+use Rattle.std.proofs.Common.{rules, sym, ◌∙◌, refl}
 use Rattle.reorder_window.proofs.judge.judge.Goals as goal
 
 pub returns-then-same : goal.returns-then-same

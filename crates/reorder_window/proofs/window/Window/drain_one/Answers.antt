@@ -1,5 +1,4 @@
 -- What is given is the next of the releases.
-use Rattle.std.proofs.Common.{Option, Some, None, refl}
 use Rattle.reorder_window.proofs.WindowLemmas.{drained-given, drained-stands}
 use Rattle.reorder_window.proofs.window.Window.drain_one.Goals as goal
 
