@@ -12,7 +12,7 @@ ltb-false a b h = grind (arith, nat_tests)
 pub leb-true : (a b : ℕ) → a ≤ b → nat_le a b ≡ true
 leb-true a b h = grind (arith, nat_tests)
 
-ltb-true : (a b : ℕ) → a < b → nat_lt a b ≡ true
+pub ltb-true : (a b : ℕ) → a < b → nat_lt a b ≡ true
 ltb-true a b h = grind (arith, nat_tests)
 
 pub ltb_tells : (a b : ℕ) → ((nat_lt a b ≡ true) × (a < b)) ⊎ ((nat_lt a b ≡ false) × (b ≤ a))

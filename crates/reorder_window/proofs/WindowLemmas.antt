@@ -38,7 +38,7 @@ module _ {T : Type 0} where
   take-held : (size : ℕ) (xs : List (Entry T)) → take (min size (length xs) - 0) xs ≡ take size xs
   take-held size xs = grind (arith, common_steps)
 
-  drop-held : (size : ℕ) (xs : List (Entry T)) → drop (min size (length xs) - 0) xs ≡ drop size xs
+  pub drop-held : (size : ℕ) (xs : List (Entry T)) → drop (min size (length xs) - 0) xs ≡ drop size xs
   drop-held size xs = grind (arith, common_steps)
 
   -- what a window keeps, by the accepted
@@ -174,7 +174,7 @@ module _ {T : Type 0} where
   fresh-more : (size : ℕ) (h : List (Entry T)) (a : Entry T) → is_late (boundary size (accepted size h)) a ≡ false → twin a (accepted size h) ≡ None → accepted size (h ++ a ∷ []) ≡ in_place a (take size (accepted size h)) ++ drop size (accepted size h)
   fresh-more size h a l t = accepted-more size h a ∙ rw (l, t) (in_place-take size a (accepted size h) l)
 
-  fresh-answer : (same : T → T → Bool) (size : ℕ) (h : List (Entry T)) (a : Entry T) → is_late (boundary size (accepted size h)) a ≡ false → twin a (take size (accepted size h)) ≡ None → answer same size h a ≡ answer_accepted (drop size (accepted size (h ++ a ∷ [])))
+  pub fresh-answer : (same : T → T → Bool) (size : ℕ) (h : List (Entry T)) (a : Entry T) → is_late (boundary size (accepted size h)) a ≡ false → twin a (take size (accepted size h)) ≡ None → answer same size h a ≡ answer_accepted (drop size (accepted size (h ++ a ∷ [])))
   fresh-answer same size h a n t =
       answer-is same size h a ∙ answer-not_late same a _ _ _ n ∙ ap (λ o. answer_above same a o (drop size (accepted size (h ++ a ∷ [])))) t
 
@@ -280,7 +280,7 @@ module _ {T : Type 0} where
   drained-stands w h k after now None s g = search rules
   drained-stands w h k after now (Some r) s g = (drained-defined w (record { size = w.size; held = after; last = now }) h k r s refl g).0
 
-  accepted-none : (size : ℕ) → accepted {T = T} size [] ≡ []
+  pub accepted-none : (size : ℕ) → accepted {T = T} size [] ≡ []
   unfolding accepted
   accepted-none size = refl
 

@@ -1,3 +1,4 @@
 pub mod Window
 pub mod State
 pub mod Steps
+pub mod Delivery

@@ -6,6 +6,7 @@ mod arrival;
 mod entry;
 mod held_item;
 mod judge;
+mod laws;
 mod release;
 #[cfg(test)]
 mod tests;
@@ -13,4 +14,5 @@ mod window;
 
 pub use crate::arrival::Arrival;
 pub use crate::held_item::HeldItem;
+pub use crate::laws::{first_arrivals_are_accepted, numbers_lost_are_absent};
 pub use crate::window::Window;
