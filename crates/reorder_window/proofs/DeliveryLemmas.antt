@@ -1,14 +1,13 @@
 -- What a window accepts of a delivery, by the numbers of the sent packets.
-use Rattle.std.proofs.Common.{◌≡◌, ℕ, ◌+◌, ◌-◌, ◌%◌, ◌<◌, ◌≤◌, ◌≢◌, Bool, true, false, cond, not, ◌&&◌, ◌||◌, ◌==◌, eqb, nat_lt, nat_le, if◌then◌else◌, List, [], ◌∷◌, ◌++◌, map, length, take, drop, fold, Option, Some, None, is_none, refl, sym, ap, subst, ◌∙◌, add-one, suc, zero, ◌⊎◌, inl, inr, append_assoc, filter, arith}
+use Rattle.std.proofs.Common.{◌≡◌, ℕ, ◌+◌, ◌-◌, ◌%◌, ◌<◌, ◌≤◌, ◌≢◌, Bool, true, false, cond, not, ◌&&◌, ◌||◌, eqb, nat_lt, if◌then◌else◌, List, [], ◌∷◌, ◌++◌, map, length, take, drop, None, is_none, refl, sym, ap, subst, ◌∙◌, suc, zero, ◌⊎◌, inl, inr, append_assoc, filter, arith}
 use Rattle.std.specs.List.{range_with_len}
-use Rattle.std.proofs.lemmas.Grind.{common_steps}
-use Rattle.std.proofs.lemmas.Bool.Decides.{nat_tests, leb_tells, eqb_tells}
+use Rattle.std.proofs.lemmas.Bool.Decides.{leb_tells, eqb_tells}
 use Rattle.std.proofs.lemmas.List.{append-nil, map-append, drop-map}
 use Rattle.std.proofs.lemmas.Bool.{false≢true}
 use Rattle.vrt_time.specs.Time.{moment_of}
 use Rattle.reorder_window.specs.declared.entry.Entry.{Entry}
-use Rattle.reorder_window.specs.Window.{lost_between, lost_before, first_stamp, boundary, is_late, twin, is_accepted, in_place, with_arrival, accepted, number_held, released, answer, answer_accepted}
-use Rattle.reorder_window.specs.Delivery.{IsSent, occurs, IsDelivery, AreLess, AreDistances, number_absent}
+use Rattle.reorder_window.specs.Window.{lost_between, first_stamp, boundary, is_late, twin, in_place, with_arrival, accepted, number_held, released, answer, answer_accepted}
+use Rattle.reorder_window.specs.Delivery.{IsSent, occurs, IsDelivery, AreLess, AreDistances, NumbersFall, AreNumbersOf}
 use Rattle.reorder_window.proofs.OrderLemmas.{ltb-false, ltb-true, ltb_tells, twin-take}
 use Rattle.reorder_window.proofs.WindowLemmas.{accepted-more, accepted-none, accepted-falling, drop-held, fresh-answer}
 
@@ -16,10 +15,6 @@ use Rattle.reorder_window.proofs.WindowLemmas.{accepted-more, accepted-none, acc
 abbrev pub number_place : ℕ → List ℕ → List ℕ
 number_place k [] = k ∷ []
 number_place k (j ∷ rest) = if nat_lt j k then k ∷ j ∷ rest else j ∷ number_place k rest
-
-abbrev pub NumbersFall : List ℕ → Type 0
-NumbersFall [] = Unit {0}
-NumbersFall (k ∷ rest) = AreLess k rest × NumbersFall rest
 
 less-more : (m n : ℕ) (ns : List ℕ) → m ≤ n → AreLess m ns → AreLess n ns
 less-more m n [] h p = tt
@@ -197,12 +192,10 @@ module _ {T : Type 0} where
             ]
           ]
 
--- the accepted are the packets of these numbers, which fall and are those that arrived
+-- the accepted are the packets of these numbers
 pub record IsSeen {T : Type 0} (size : ℕ) (packet : ℕ → Entry T) (before ns : List ℕ) : Type 0 where
   pub are : accepted size (map packet before) ≡ map packet ns
-  pub fall : NumbersFall ns
-  pub inside : (k : ℕ) → occurs k ns ≡ true → occurs k before ≡ true
-  pub all : (k : ℕ) → occurs k before ≡ true → occurs k ns ≡ true
+  pub numbers : AreNumbersOf before ns
 
 less-by : (n : ℕ) (ns : List ℕ) → ((j : ℕ) → occurs j ns ≡ true → j < n) → AreLess n ns
 less-by n [] h = tt
@@ -219,22 +212,24 @@ module _ {T : Type 0} where
   -- a first arrival is accepted
   first-accepted : (start total : ℕ) (packet : ℕ → Entry T) → IsSent start total packet → (size k : ℕ) (before ns : List ℕ) → IsSeen size packet before ns → k < total → ((m : ℕ) → occurs m before ≡ true → m < total) → occurs k before ≡ false → ((j : ℕ) → occurs j before ≡ true → j ≤ k + size) → (is_late (boundary size (map packet ns)) (packet k) ≡ false) × (twin (packet k) (map packet ns) ≡ None)
   first-accepted start total packet s size k before ns i l all e near =
-      let f : occurs k ns ≡ false = absent-by k ns before i.inside e in
-      let a : AreLess (k + size + 1) ns = less-by (k + size + 1) ns (λ j h. omega (arith, near j (i.inside j h))) in
-      (early start total packet s size k ns i.fall l a f, twin-absent start total packet s k ns l (λ m h. all m (i.inside m h)) f)
+      let f : occurs k ns ≡ false = absent-by k ns before i.numbers.inside e in
+      let a : AreLess (k + size + 1) ns = less-by (k + size + 1) ns (λ j h. omega (arith, near j (i.numbers.inside j h))) in
+      (early start total packet s size k ns i.numbers.fall l a f, twin-absent start total packet s k ns l (λ m h. all m (i.numbers.inside m h)) f)
 
   map-more : (packet : ℕ → Entry T) (before : List ℕ) (k : ℕ) → map packet (before ++ k ∷ []) ≡ map packet before ++ packet k ∷ []
   map-more packet before k = map-append packet before (k ∷ [])
 
   seen-again : (size : ℕ) (packet : ℕ → Entry T) (k : ℕ) (before ns : List ℕ) → IsSeen size packet before ns → occurs k before ≡ true → IsSeen size packet (before ++ k ∷ []) ns
   seen-again size packet k before ns i e = record {
-    are = ap (accepted size) (map-more packet before k) ∙ accepted-more size (map packet before) (packet k) ∙ ap (λ l. with_arrival size l (packet k)) i.are ∙ with-none (is_late (boundary size (map packet ns)) (packet k)) (is_none (twin (packet k) (map packet ns))) (twin-there packet k ns (i.all k e));
-    fall = i.fall;
-    inside = λ m h. occurs-append_left m before (k ∷ []) (i.inside m h);
-    all = λ m h. elim (occurs-append m before (k ∷ []) h) [
-      | inl u ↦ i.all m u
-      | inr u ↦ elim (occurs-cons m k [] u) [ inl v ↦ rw (sym v) (i.all k e) | inr v ↦ absurd (false≢true v) ]
-    ];
+    are = ap (accepted size) (map-more packet before k) ∙ accepted-more size (map packet before) (packet k) ∙ ap (λ l. with_arrival size l (packet k)) i.are ∙ with-none (is_late (boundary size (map packet ns)) (packet k)) (is_none (twin (packet k) (map packet ns))) (twin-there packet k ns (i.numbers.all k e));
+    numbers = record {
+      fall = i.numbers.fall;
+      inside = λ m h. occurs-append_left m before (k ∷ []) (i.numbers.inside m h);
+      all = λ m h. elim (occurs-append m before (k ∷ []) h) [
+        | inl u ↦ i.numbers.all m u
+        | inr u ↦ elim (occurs-cons m k [] u) [ inl v ↦ rw (sym v) (i.numbers.all k e) | inr v ↦ absurd (false≢true v) ]
+      ];
+    };
   }
     where
       with-none : (late none : Bool) → none ≡ false → cond (not late && none) (in_place (packet k) (map packet ns)) (map packet ns) ≡ map packet ns
@@ -246,16 +241,18 @@ module _ {T : Type 0} where
       let f = first-accepted start total packet s size k before ns i l all e near in
       let added : with_arrival size (map packet ns) (packet k) ≡ in_place (packet k) (map packet ns) = rw (f.0, f.1) refl in
       record {
-        are = ap (accepted size) (map-more packet before k) ∙ accepted-more size (map packet before) (packet k) ∙ ap (λ l. with_arrival size l (packet k)) i.are ∙ added ∙ place-map start total packet s k ns l (λ m h. all m (i.inside m h));
-        fall = number_place-fall k ns i.fall (absent-by k ns before i.inside e);
-        inside = λ m h. elim (occurs-place m k ns h) [
-          | inl u ↦ occurs-append_right m before (k ∷ []) (rw u (occurs-here m []))
-          | inr u ↦ occurs-append_left m before (k ∷ []) (i.inside m u)
-        ];
-        all = λ m h. elim (occurs-append m before (k ∷ []) h) [
-          | inl u ↦ place-occurs m k ns (occurs-behind m k ns (i.all m u))
-          | inr u ↦ elim (occurs-cons m k [] u) [ inl v ↦ place-occurs m k ns (rw v (occurs-here m ns)) | inr v ↦ absurd (false≢true v) ]
-        ];
+        are = ap (accepted size) (map-more packet before k) ∙ accepted-more size (map packet before) (packet k) ∙ ap (λ l. with_arrival size l (packet k)) i.are ∙ added ∙ place-map start total packet s k ns l (λ m h. all m (i.numbers.inside m h));
+        numbers = record {
+          fall = number_place-fall k ns i.numbers.fall (absent-by k ns before i.numbers.inside e);
+          inside = λ m h. elim (occurs-place m k ns h) [
+            | inl u ↦ occurs-append_right m before (k ∷ []) (rw u (occurs-here m []))
+            | inr u ↦ occurs-append_left m before (k ∷ []) (i.numbers.inside m u)
+          ];
+          all = λ m h. elim (occurs-append m before (k ∷ []) h) [
+            | inl u ↦ place-occurs m k ns (occurs-behind m k ns (i.numbers.all m u))
+            | inr u ↦ elim (occurs-cons m k [] u) [ inl v ↦ place-occurs m k ns (rw v (occurs-here m ns)) | inr v ↦ absurd (false≢true v) ]
+          ];
+        };
       }
 
   -- one more arrival of a delivery
@@ -284,7 +281,7 @@ module _ {T : Type 0} where
   -- what was seen of any part of a delivery
   pub seen : (start total : ℕ) (packet : ℕ → Entry T) → IsSent start total packet → (size : ℕ) (order : List ℕ) → IsDelivery size total order → (before later : List ℕ) → order ≡ before ++ later → (ns : List ℕ) × IsSeen size packet before ns
   seen start total packet s size order d before later e =
-      seen-from start total packet s size order d [] before later [] e (record { are = accepted-none size; fall = tt; inside = λ k h. h; all = λ k h. h })
+      seen-from start total packet s size order d [] before later [] e (record { are = accepted-none size; numbers = record { fall = tt; inside = λ k h. h; all = λ k h. h } })
 
 first-of : (k : ℕ) (later : List ℕ) → occurs k later ≡ true → (middle : List ℕ) × (after : List ℕ) × (later ≡ middle ++ k ∷ after) × (occurs k middle ≡ false)
 first-of k [] e = cc
@@ -342,7 +339,7 @@ module _ {T : Type 0} where
   pub final-below : (start total size : ℕ) (packet : ℕ → Entry T) (order before later : List ℕ) (k : ℕ) → IsSent start total packet → IsDelivery size total order → order ≡ before ++ later → occurs k before ≡ false → occurs k later ≡ true → (ns : List ℕ) × (released size (map packet before) 0 ≡ map packet ns) × AreLess k ns
   final-below start total size packet order before later k s d e f h =
       let n = seen start total packet s size order d before later e in
-      (drop size n.0, released-now size packet before n.0 n.1, behind-less size total order before later k n.0 d e f h n.1.fall n.1.inside)
+      (drop size n.0, released-now size packet before n.0 n.1, behind-less size total order before later k n.0 d e f h n.1.numbers.fall n.1.numbers.inside)
 
   pub final-answered : (start total size : ℕ) (packet : ℕ → Entry T) (order before after : List ℕ) (k : ℕ) (same : T → T → Bool) → IsSent start total packet → IsDelivery size total order → order ≡ before ++ k ∷ after → occurs k before ≡ false → answer same size (map packet before) (packet k) ≡ answer_accepted (released size (map packet before ++ packet k ∷ []) 0)
   final-answered start total size packet order before after k same s d e f =
@@ -418,12 +415,12 @@ module _ {T : Type 0} where
       by_rest : (rest : List ℕ) → drop n ns ≡ rest → AreDistances packet order rest
       by_rest [] f = tt
       by_rest (k ∷ rest) f =
-          distances start total size packet order s d k rest (subst NumbersFall f (fall-drop n ns i.fall))
-          (λ m h. rw e (occurs-append_left m before later (i.inside m (occurs-drop m n ns (rw f h)))))
+          distances start total size packet order s d k rest (subst NumbersFall f (fall-drop n ns i.numbers.fall))
+          (λ m h. rw e (occurs-append_left m before later (i.numbers.inside m (occurs-drop m n ns (rw f h)))))
           (record { below = λ m o l. below m o l (occurs m before) refl })
         where
           below : (m : ℕ) → occurs m order ≡ true → m < k → (v : Bool) → occurs m before ≡ v → occurs m rest ≡ true
-          below m o l true b = behind-drop n m k ns rest i.fall f (i.all m b) l
+          below m o l true b = behind-drop n m k ns rest i.numbers.fall f (i.numbers.all m b) l
           below m o l false b =
               elim (occurs-append m before later (rw e at o)) [
                 | inl t ↦ let g : true ≡ false = sym t ∙ b in cc
@@ -436,7 +433,7 @@ module _ {T : Type 0} where
       let n = seen start total packet s size order d before later e in (
         drop size n.0,
         released-now size packet before n.0 n.1,
-        released-distances start total size size packet order before later n.0 s d e n.1 (λ k f h. behind-less size total order before later k n.0 d e f h n.1.fall n.1.inside),
+        released-distances start total size size packet order before later n.0 s d e n.1 (λ k f h. behind-less size total order before later k n.0 d e f h n.1.numbers.fall n.1.numbers.inside),
       )
 
   -- and afterwards, while the held are drained
@@ -448,3 +445,8 @@ module _ {T : Type 0} where
         released-are size packet order n.0 drained n.1,
         released-distances start total size count packet order order [] n.0 s d (sym (append-nil order)) n.1 (λ k f h. absurd (false≢true h)),
       )
+
+  -- the accepted are what arrived, each once
+  pub final-once : (start total size : ℕ) (packet : ℕ → Entry T) (order before later : List ℕ) → IsSent start total packet → IsDelivery size total order → order ≡ before ++ later → (ns : List ℕ) × (accepted size (map packet before) ≡ map packet ns) × AreNumbersOf before ns
+  final-once start total size packet order before later s d e =
+      let n = seen start total packet s size order d before later e in (n.0, n.1.are, n.1.numbers)

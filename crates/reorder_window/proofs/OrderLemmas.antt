@@ -3,7 +3,7 @@ use Rattle.std.proofs.Common.{◌≡◌, ℕ, ◌<◌, ◌≤◌, true, false, c
 use Rattle.std.proofs.lemmas.Bool.Decides.{nat_tests, leb_tells, eqb_tells}
 use Rattle.vrt_time.specs.Time.{moment_of}
 use Rattle.reorder_window.specs.declared.entry.Entry.{Entry}
-use Rattle.reorder_window.specs.Window.{boundary, is_late, twin, in_place}
+use Rattle.reorder_window.specs.Window.{boundary, is_late, twin, in_place, AreBelow, AreFalling}
 use Rattle.reorder_window.specs.Steps.{number_above, found}
 
 pub ltb-false : (a b : ℕ) → b ≤ a → nat_lt a b ≡ false
@@ -19,16 +19,6 @@ pub ltb_tells : (a b : ℕ) → ((nat_lt a b ≡ true) × (a < b)) ⊎ ((nat_lt 
 ltb_tells a b = elim (leb_tells b a) [ inl h ↦ inr (ltb-false a b h.1, h.1) | inr h ↦ inl (ltb-true a b h.1, h.1) ]
 
 module _ {T : Type 0} where
-  -- all stamps are of moments below this
-  abbrev pub AreBelow : ℕ → List (Entry T) → Type 0
-  AreBelow n [] = Unit {0}
-  AreBelow n (b ∷ rest) = (moment_of b.stamp < n) × AreBelow n rest
-
-  -- each stamp is above all behind it
-  abbrev pub AreFalling : List (Entry T) → Type 0
-  AreFalling [] = Unit {0}
-  AreFalling (b ∷ rest) = AreBelow (moment_of b.stamp) rest × AreFalling rest
-
   -- none below is a twin
   pub twin_none : (n : ℕ) (a : Entry T) (xs : List (Entry T)) → n ≤ moment_of a.stamp → AreBelow n xs → twin a xs ≡ None
   twin_none n a [] h p = refl

@@ -9,10 +9,10 @@ use Rattle.reorder_window.specs.declared.entry.Entry.{Entry}
 use Rattle.reorder_window.specs.declared.entry.Last.{Last}
 use Rattle.reorder_window.specs.declared.arrival.Arrival.{Arrival}
 use Rattle.reorder_window.specs.declared.arrival.Arrival.TheVariants.{Released, Late, Repeat, Conflict}
-use Rattle.reorder_window.specs.Window.{first_stamp, boundary, is_late, twin, in_place, with_arrival, accepted, number_held, held, released, lost_before, answer_twin, answer_accepted, answer_above, answer_by, answer, release, in_order, releases, released_by}
+use Rattle.reorder_window.specs.Window.{AreBelow, AreFalling, first_stamp, boundary, is_late, twin, in_place, with_arrival, accepted, number_held, held, released, lost_before, answer_twin, answer_accepted, answer_above, answer_by, answer, release, in_order, releases, released_by}
 use Rattle.reorder_window.specs.State.{Holding, last_of, StandsFor}
 use Rattle.reorder_window.specs.Steps.{late_by, lost_after, found, IsRepeated, IsContradicted, IsFresh, IsGiven, IsKept, IsReleased}
-use Rattle.reorder_window.proofs.OrderLemmas.{AreBelow, AreFalling, ltb-false, leb-true, in_place-falling, twin-found, twin-take, insert-in_place, in_place-take, length-in_place, ltb_tells}
+use Rattle.reorder_window.proofs.OrderLemmas.{ltb-false, leb-true, in_place-falling, twin-found, twin-take, insert-in_place, in_place-take, length-in_place, ltb_tells}
 
 module _ {T : Type 0} where
   pub accepted-more : (size : ℕ) (h : List (Entry T)) (a : Entry T) → accepted size (h ++ a ∷ []) ≡ with_arrival size (accepted size h) a

@@ -28,6 +28,17 @@ abbrev pub AreLess : ℕ → List ℕ → Type 0
 AreLess n [] = Unit {0}
 AreLess n (j ∷ rest) = (j < n) × AreLess n rest
 
+-- each is above all behind it
+abbrev pub NumbersFall : List ℕ → Type 0
+NumbersFall [] = Unit {0}
+NumbersFall (k ∷ rest) = AreLess k rest × NumbersFall rest
+
+-- these are the numbers that arrived, each once, the greatest first
+pub record AreNumbersOf (arrived numbers : List ℕ) : Type 0 where
+  pub fall : NumbersFall numbers
+  pub inside : (k : ℕ) → occurs k numbers ≡ true → occurs k arrived ≡ true
+  pub all : (k : ℕ) → occurs k arrived ≡ true → occurs k numbers ≡ true
+
 -- how many numbers between these two are not among those that arrive
 abbrev pub number_absent : List ℕ → ℕ → ℕ → ℕ
 number_absent order j k = length (filter (λ m. not (occurs m order)) (range_with_len (j + 1) (k - j - 1)))

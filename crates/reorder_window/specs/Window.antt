@@ -1,5 +1,5 @@
 -- Which packets a window accepts, holds and releases, and how it answers, by all arrivals so far.
-use Rattle.std.specs.Prelude.{ℕ, ◌+◌, ◌-◌, ◌%◌, min, Bool, false, not, ◌&&◌, ◌==◌, nat_le, nat_lt, if◌then◌else◌, List, [], ◌∷◌, ◌++◌, length, take, drop, fold, find, Option, Some, None, is_none}
+use Rattle.std.specs.Prelude.{ℕ, ◌+◌, ◌-◌, ◌%◌, ◌<◌, min, Bool, false, not, ◌&&◌, ◌==◌, nat_le, nat_lt, if◌then◌else◌, List, [], ◌∷◌, ◌++◌, length, take, drop, fold, find, Option, Some, None, is_none}
 use Rattle.vrt_time.specs.Time.{TimeStamp, moment_of}
 use Rattle.reorder_window.specs.declared.entry.Entry.{Entry}
 use Rattle.reorder_window.specs.declared.arrival.Arrival.{Arrival}
@@ -10,6 +10,16 @@ abbrev pub lost_between : ℕ → ℕ → ℕ
 lost_between previous count = (count % 16 + 15 - previous % 16) % 16
 
 module _ {T : Type 0} where
+  -- all stamps are of moments below this
+  abbrev pub AreBelow : ℕ → List (Entry T) → Type 0
+  AreBelow n [] = Unit {0}
+  AreBelow n (b ∷ rest) = (moment_of b.stamp < n) × AreBelow n rest
+
+  -- each stamp is above all behind it
+  abbrev pub AreFalling : List (Entry T) → Type 0
+  AreFalling [] = Unit {0}
+  AreFalling (b ∷ rest) = AreBelow (moment_of b.stamp) rest × AreFalling rest
+
   -- the stamp of the first packet
   abbrev pub first_stamp : List (Entry T) → Option TimeStamp
   first_stamp [] = None

@@ -14,5 +14,7 @@ mod window;
 
 pub use crate::arrival::Arrival;
 pub use crate::held_item::HeldItem;
-pub use crate::laws::{first_arrivals_are_accepted, numbers_lost_are_absent};
+pub use crate::laws::{
+    accepted_are_arrivals, first_arrivals_are_accepted, numbers_lost_are_absent,
+};
 pub use crate::window::Window;

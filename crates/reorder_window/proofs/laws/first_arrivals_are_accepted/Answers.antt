@@ -1,6 +1,6 @@
 -- Both follow from what was seen of a part of the delivery.
 use Rattle.std.proofs.Common.{refl}
-use Rattle.reorder_window.proofs.DeliveryLemmas.{final-accepted, final-below, final-answered}
+use Rattle.reorder_window.proofs.DeliveryLemmas.{final-accepted, final-below, final-answered, final-once}
 use Rattle.reorder_window.proofs.laws.first_arrivals_are_accepted.Goals as goal
 
 pub returns-clause-accepted : goal.returns-clause-accepted
@@ -12,3 +12,6 @@ returns-clause-answered g c = λ start total size packet order before after k sa
 
 pub returns-clause-below : goal.returns-clause-below
 returns-clause-below g c = λ start total size packet order before later k s d e f h. final-below start total size packet order before later k s d e f h
+
+pub returns-clause-once : goal.returns-clause-once
+returns-clause-once g c = λ start total size packet order before later s d e. final-once start total size packet order before later s d e
