@@ -1,0 +1,5 @@
+pub mod Window
+pub mod State
+pub mod Steps
+pub mod Delivery
+pub mod WindowLaws
