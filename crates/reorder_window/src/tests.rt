@@ -209,3 +209,25 @@ fn other_fields_of_one_stamp_are_a_conflict(rt: HostRuntime) -> Result<(), Fail>
     );
     Ok(())
 }
+
+#[test]
+fn the_greatest_window_holds_4096_packets(rt: HostRuntime) -> Result<(), Fail> {
+    let mut window = Window::open(rt.alloc(), 4096).ok().ok_or("memory")?;
+    for number in 0..4096u32 {
+        assert!(rt;
+            matches!(
+                window.arrive(at(number), (number % 16) as u8, number),
+                Arrival::Kept
+            )
+        );
+    }
+    assert_eq!(rt;
+        window.arrive(at(4096), 0, 4096),
+        Arrival::Released {
+            stamp: at(0),
+            lost: 0,
+            item: 0
+        }
+    );
+    Ok(())
+}
