@@ -38,9 +38,9 @@ spelled profile p words first class codes fits h e0 e2 e3 =
     ∙ ap (λ (a : ℕ). take (prologue_words p.header.timed) (first ∷ p.stream ∷ a ∷ get_or words 3 0 ∷ stamp_words p.stamp)) (sym e2)
     ∙ ap (λ (a : ℕ). take (prologue_words p.header.timed) (first ∷ p.stream ∷ class ∷ a ∷ stamp_words p.stamp)) (sym e3)
 
-pub stamp_items : (stamp : Option TimeStamp) (row : List ℕ) → row ≡ stamp_words stamp → get_or row 0 0 ∷ get_or row 1 0 ∷ get_or row 2 0 ∷ [] ≡ stamp_words stamp
-stamp_items (Some stamp) row e = ap (λ (r : List ℕ). get_or r 0 0 ∷ get_or r 1 0 ∷ get_or r 2 0 ∷ []) e
-stamp_items None row e = ap (λ (r : List ℕ). get_or r 0 0 ∷ get_or r 1 0 ∷ get_or r 2 0 ∷ []) e
+pub stamp_items : (stamp : Option TimeStamp) (words : List ℕ) → words ≡ stamp_words stamp → get_or words 0 0 ∷ get_or words 1 0 ∷ get_or words 2 0 ∷ [] ≡ stamp_words stamp
+stamp_items (Some stamp) words e = ap (λ (r : List ℕ). get_or r 0 0 ∷ get_or r 1 0 ∷ get_or r 2 0 ∷ []) e
+stamp_items None words e = ap (λ (r : List ℕ). get_or r 0 0 ∷ get_or r 1 0 ∷ get_or r 2 0 ∷ []) e
 
 pub same_bit : (a b : ℕ) → a < 2 → b < 2 → (a == 1) ≡ (b == 1) → a ≡ b
 same_bit zero zero p q e = refl
