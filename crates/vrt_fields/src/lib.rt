@@ -4,8 +4,12 @@
 
 mod field;
 mod format;
+mod limit;
+mod route;
 #[cfg(test)]
 mod tests;
 
 pub use crate::field::Field;
 pub use crate::format::PayloadFormat;
+pub use crate::limit::Limit;
+pub use crate::route::Route;
