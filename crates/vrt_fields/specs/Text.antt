@@ -1,0 +1,71 @@
+-- The text of a field: its name and its value in the units of the standard.
+use Rattle.std.specs.Prelude.{ℕ, ◌/◌, ◌%◌, ◌^◌, ℤ, List, [], ◌∷◌, ◌++◌, true, codes}
+use Rattle.std.specs.Int.{cast_signed, int_shr}
+use Rattle.std.specs.Fmt.{decimal, signed_decimal, digit_glyph}
+use mir.Syntax.{w16, w64}
+use Rattle.vrt_words.specs.Words.{bits}
+use Rattle.vrt_fields.specs.declared.field.Field.{Field}
+use Rattle.vrt_fields.specs.declared.field.Field.TheVariants.{ReferencePoint, Bandwidth, IfReference, RfReference, IfOffset, ReferenceLevel, Gain, SampleRate, TimeAdjustment, Calibration, State, Format}
+
+-- four digits to the base 16, with upper-case letters, and eight
+abbrev pub hexadecimal_half : ℕ → List ℕ
+hexadecimal_half half = digit_glyph true (bits half 12 4) ∷ digit_glyph true (bits half 8 4)
+    ∷ digit_glyph true (bits half 4 4) ∷ digit_glyph true (bits half 0 4) ∷ []
+
+abbrev pub hexadecimal : ℕ → List ℕ
+hexadecimal word = digit_glyph true (bits word 28 4) ∷ digit_glyph true (bits word 24 4)
+    ∷ digit_glyph true (bits word 20 4) ∷ digit_glyph true (bits word 16 4)
+    ∷ digit_glyph true (bits word 12 4) ∷ digit_glyph true (bits word 8 4)
+    ∷ digit_glyph true (bits word 4 4) ∷ digit_glyph true (bits word 0 4) ∷ []
+
+-- the number in 64 bits, and in 16, in two's complement
+abbrev pub signed_64 : ℕ → ℤ
+signed_64 value = cast_signed w64 value
+
+abbrev pub signed_16 : ℕ → ℤ
+signed_16 half = cast_signed w16 half
+
+-- a signed number in units of 2^-20 Hz: the whole hertz, rounded down, and the units that are left
+abbrev pub hertz : ℕ → List ℕ
+hertz value = signed_decimal (int_shr (signed_64 value) 20) ++ codes " Hz + " ++ decimal (value % 2 ^ 20) ++ codes "/1048576"
+
+-- a level in the low half of a word, and what the high half holds
+abbrev pub level : ℕ → List ℕ
+level word = signed_decimal (signed_16 (word % 2 ^ 16)) ++ codes "/128 dBm upper " ++ hexadecimal_half (word / 2 ^ 16)
+
+-- the gain of stage 1 in the low half of a word, and of stage 2 in the high one
+abbrev pub gains : ℕ → List ℕ
+gains word = signed_decimal (signed_16 (word % 2 ^ 16)) ++ codes "/128 dB " ++ signed_decimal (signed_16 (word / 2 ^ 16)) ++ codes "/128 dB"
+
+-- what a field is called
+abbrev pub field_name : Field → List ℕ
+field_name ReferencePoint = codes "reference point "
+field_name Bandwidth = codes "bandwidth "
+field_name IfReference = codes "IF "
+field_name RfReference = codes "RF "
+field_name IfOffset = codes "IF offset "
+field_name ReferenceLevel = codes "reference level "
+field_name Gain = codes "gain "
+field_name SampleRate = codes "sample rate "
+field_name TimeAdjustment = codes "time adjustment "
+field_name Calibration = codes "calibration "
+field_name State = codes "state "
+field_name Format = codes "payload "
+
+-- what its value says
+abbrev pub value_text : Field → ℕ → List ℕ
+value_text ReferencePoint value = hexadecimal value
+value_text Bandwidth value = hertz value
+value_text IfReference value = hertz value
+value_text RfReference value = hertz value
+value_text IfOffset value = hertz value
+value_text ReferenceLevel value = level value
+value_text Gain value = gains value
+value_text SampleRate value = hertz value
+value_text TimeAdjustment value = signed_decimal (signed_64 value) ++ codes " fs"
+value_text Calibration value = decimal value ++ codes " s"
+value_text State value = hexadecimal value
+value_text Format value = hexadecimal (value / 2 ^ 32) ++ codes " " ++ hexadecimal (value % 2 ^ 32)
+
+abbrev pub field_text : Field → ℕ → List ℕ
+field_text field value = field_name field ++ value_text field value
