@@ -1,13 +1,13 @@
 -- One more field of those in order, and of the values that stand beside them.
-use Rattle.std.proofs.Common.{◌≡◌, ℕ, zero, suc, ◌+◌, ◌*◌, ◌^◌, ◌<◌, ◌≤◌, List, [], ◌∷◌, ◌++◌, length, take, drop, get_or, sum_by, Option, Some, None, IfSome, refl, sym, ap, ◌∙◌, subst, append_assoc, append-nil, length-append, lit<, lit≤, arith}
-use Rattle.std.proofs.Math.ListN.{set, length-set}
+use Rattle.std.proofs.Common.{◌≡◌, ℕ, zero, suc, ◌+◌, ◌*◌, ◌^◌, ◌<◌, ◌≤◌, List, [], ◌∷◌, ◌++◌, length, take, drop, get_or, sum_by, Option, Some, None, IfSome, refl, sym, ap, ◌∙◌, subst, append_assoc, append-nil, length-append, arith}
+use Rattle.std.proofs.Math.ListN.{set}
 use Rattle.std.proofs.Math.Seq.{drop-cons, take-suc-set}
 use Rattle.std.proofs.lemmas.List.{take_all}
 use Rattle.std.proofs.lemmas.List.Sums.{sum_by-cons}
 use Rattle.vrt_fields.specs.declared.field.Field.{Field}
 use Rattle.vrt_fields.specs.declared.field.Field.TheVariants.{ReferencePoint}
 use Rattle.vrt_fields.specs.Field.{bit_of, width_of, fields_in_order}
-use Rattle.vrt_fields.specs.FieldSet.{FieldValues, FitsField, bit_if, mask_with, mask_of, words_if, words_with, words_of_set, bit_in, width_of_mask}
+use Rattle.vrt_fields.specs.FieldSet.{FieldValues, FitsField, bit_if, mask_with, words_if, words_with, bit_in}
 use Rattle.vrt_fields.specs.Values.{taken, first_value, values_in}
 use Rattle.vrt_fields.specs.FieldSetLaws.{AllFit, length-words_if, flag}
 
@@ -53,6 +53,12 @@ module _ (i : ℕ) (field : Field) (h : i < 12) (e : field ≡ get_or fields_in_
       ap (λ l. sum_by (λ f. bit_in cif0 f * width_of f) l) next_field
       ∙ sum_by-cons (λ f. bit_in cif0 f * width_of f) field (drop (i + 1) fields_in_order)
 
+  pub bits_next : (cif0 : ℕ) → sum_by (λ f. bit_in cif0 f * 2 ^ bit_of f) (drop i fields_in_order)
+      ≡ bit_in cif0 field * 2 ^ bit_of field + sum_by (λ f. bit_in cif0 f * 2 ^ bit_of f) (drop (i + 1) fields_in_order)
+  bits_next cif0 =
+      ap (λ l. sum_by (λ f. bit_in cif0 f * 2 ^ bit_of f) l) next_field
+      ∙ sum_by-cons (λ f. bit_in cif0 f * 2 ^ bit_of f) field (drop (i + 1) fields_in_order)
+
   pub values_next : (cif0 : ℕ) (words : List ℕ) → values_in cif0 (drop i fields_in_order) words
       ≡ first_value (bit_in cif0 field) (width_of field) words ∷ values_in cif0 (drop (i + 1) fields_in_order) (drop (taken cif0 field) words)
   values_next cif0 words = ap (λ l. values_in cif0 l words) next_field
@@ -66,6 +72,9 @@ words_end i values e = ap (λ n. words_with (drop n fields_in_order) (drop n val
 
 pub width_end : (cif0 i : ℕ) → i ≡ 12 → sum_by (λ f. bit_in cif0 f * width_of f) (drop i fields_in_order) ≡ 0
 width_end cif0 i e = ap (λ n. sum_by (λ f. bit_in cif0 f * width_of f) (drop n fields_in_order)) e
+
+pub bits_end : (cif0 i : ℕ) → i ≡ 12 → sum_by (λ f. bit_in cif0 f * 2 ^ bit_of f) (drop i fields_in_order) ≡ 0
+bits_end cif0 i e = ap (λ n. sum_by (λ f. bit_in cif0 f * 2 ^ bit_of f) (drop n fields_in_order)) e
 
 pub values_end : (cif0 i : ℕ) (words : List ℕ) → i ≡ 12 → values_in cif0 (drop i fields_in_order) words ≡ []
 values_end cif0 i words e = ap (λ n. values_in cif0 (drop n fields_in_order) words) e
@@ -89,8 +98,14 @@ pub words_most : (fields : List Field) (values : FieldValues) → length (words_
 words_most [] values = omega arith
 words_most (field ∷ fields) [] = omega arith
 words_most (field ∷ fields) (value ∷ values) =
-    omega (arith, sum_by-cons width_of field fields, words_most fields values, length-words_if field value, flag_most value (width_of field),
-    length-append (words_if value (width_of field)) (words_with fields values))
+    omega (
+      arith,
+      sum_by-cons width_of field fields,
+      words_most fields values,
+      length-words_if field value,
+      flag_most value (width_of field),
+      length-append (words_if value (width_of field)) (words_with fields values),
+    )
 
 bit_times : (b w : ℕ) → b < 2 → b * w ≤ w
 bit_times zero w h = omega arith
@@ -104,6 +119,20 @@ pub width_most : (cif0 : ℕ) (fields : List Field) → sum_by (λ field. bit_in
 width_most cif0 [] = omega arith
 width_most cif0 (field ∷ fields) =
     omega (arith, sum_by-cons width_of field fields, sum_by-cons (λ f. bit_in cif0 f * width_of f) field fields, width_most cif0 fields, width_at_most cif0 field)
+
+bit_at_most : (cif0 : ℕ) (field : Field) → bit_in cif0 field * 2 ^ bit_of field ≤ 2 ^ bit_of field
+bit_at_most cif0 field = bit_times (bit_in cif0 field) (2 ^ bit_of field) (omega arith)
+
+pub bits_most : (cif0 : ℕ) (fields : List Field) → sum_by (λ field. bit_in cif0 field * 2 ^ bit_of field) fields ≤ sum_by (λ field. 2 ^ bit_of field) fields
+bits_most cif0 [] = omega arith
+bits_most cif0 (field ∷ fields) =
+    omega (
+      arith,
+      sum_by-cons (λ f. 2 ^ bit_of f) field fields,
+      sum_by-cons (λ f. bit_in cif0 f * 2 ^ bit_of f) field fields,
+      bits_most cif0 fields,
+      bit_at_most cif0 field,
+    )
 
 pub all_bits : sum_by (λ field. 2 ^ bit_of field) fields_in_order ≡ 0x7BB98000
 all_bits = refl

@@ -83,3 +83,7 @@ IsFieldMask cif0 = cif0 ≡ sum_by (λ field. bit_in cif0 field * 2 ^ bit_of fie
 -- the words that the fields of CIF0 take
 abbrev pub width_of_mask : ℕ → ℕ
 width_of_mask cif0 = sum_by (λ field. bit_in cif0 field * width_of field) fields_in_order
+
+-- how many fields CIF0 names
+abbrev pub number_in_mask : ℕ → ℕ
+number_in_mask cif0 = sum_by (λ field. bit_in cif0 field) fields_in_order

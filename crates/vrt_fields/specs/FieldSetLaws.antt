@@ -1,10 +1,10 @@
 -- Laws of field sets: CIF0 and the words determine a set, and a set CIF0 and its words.
-use Rattle.std.proofs.Common.{◌≡◌, ℕ, zero, suc, ◌+◌, ◌-◌, ◌*◌, ◌/◌, ◌%◌, ◌^◌, ◌<◌, ◌≤◌, ◌==◌, if◌then◌else◌, List, [], ◌∷◌, ◌++◌, length, take, drop, get_or, sum_by, Option, Some, None, IfSome, refl, sym, ap, ◌∙◌, subst, lit<, lit≤, arith, append_assoc, length-append, length-drop, take-add}
+use Rattle.std.proofs.Common.{◌≡◌, ℕ, zero, suc, ◌+◌, ◌-◌, ◌*◌, ◌/◌, ◌%◌, ◌^◌, ◌<◌, ◌≤◌, List, [], ◌∷◌, ◌++◌, length, take, drop, sum_by, Option, Some, None, IfSome, refl, sym, ap, ◌∙◌, subst, lit<, arith, length-append, length-drop, take-add}
 use Rattle.std.proofs.lemmas.List.Sums.{sum_by-cons}
-use Rattle.std.proofs.Math.Pow.{add-lt-pow, pow_mono, pow_pos}
-use Rattle.std.proofs.Math.Seq.{drop-cons, take-append_seam, drop-append_seam}
+use Rattle.std.proofs.Math.Pow.{pow_mono, pow_pos}
+use Rattle.std.proofs.Math.Seq.{drop-append_seam}
 use Rattle.std.proofs.lemmas.Nat.{div-mul-add, pow-add}
-use Rattle.vrt_words.specs.Words.{AreWords, bits}
+use Rattle.vrt_words.specs.Words.{AreWords}
 use Rattle.vrt_words.specs.WordLaws.{AreWords-drop}
 use Rattle.vrt_fields.specs.declared.field.Field.{Field}
 use Rattle.vrt_fields.specs.declared.field.Field.TheVariants.{ReferencePoint, Bandwidth, IfReference, RfReference, IfOffset, ReferenceLevel, Gain, SampleRate, TimeAdjustment, Calibration, State, Format}
@@ -291,9 +291,25 @@ words_read n (field ∷ fields) words are h =
 
 -- a set is one value or None for each field
 all_fit : (set : FieldValues) → length set ≡ 12 → ((field : Field) → IfSome (value_of set field) (FitsField field)) → AllFit fields_in_order set
-all_fit (a ∷ b ∷ c ∷ d ∷ e ∷ f ∷ g ∷ h ∷ i ∷ j ∷ k ∷ l ∷ []) size fits =
-    (fits ReferencePoint, (fits Bandwidth, (fits IfReference, (fits RfReference, (fits IfOffset, (fits ReferenceLevel,
-    (fits Gain, (fits SampleRate, (fits TimeAdjustment, (fits Calibration, (fits State, (fits Format, tt))))))))))))
+all_fit (a ∷ b ∷ c ∷ d ∷ e ∷ f ∷ g ∷ h ∷ i ∷ j ∷ k ∷ l ∷ []) size fits = (
+  fits ReferencePoint,
+  (
+    fits Bandwidth,
+    (
+      fits IfReference,
+      (
+        fits RfReference,
+        (
+          fits IfOffset,
+          (
+            fits ReferenceLevel,
+            (fits Gain, (fits SampleRate, (fits TimeAdjustment, (fits Calibration, (fits State, (fits Format, tt)))))),
+          ),
+        ),
+      ),
+    ),
+  ),
+)
 all_fit set size fits = absurd (omega arith)
 
 pub IsFieldSet-AllFit : (set : FieldValues) → IsFieldSet set → AllFit fields_in_order set

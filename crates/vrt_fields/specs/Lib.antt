@@ -5,4 +5,6 @@ pub mod FormatLaws
 pub mod FieldSet
 pub mod Values
 pub mod FieldSetLaws
+pub mod MaskLaws
 pub mod Text
+pub mod TextLaws

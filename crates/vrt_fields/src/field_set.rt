@@ -34,7 +34,8 @@ impl Model for FieldSet {
 impl FieldSet {
     /// The set with no field.
     pub fn empty() -> FieldSet
-        ensures { result ≡ no_fields }
+        ensures none { result ≡ no_fields }
+        ensures set { IsFieldSet result }
     {
         FieldSet { values: [None; 12] }
     }
@@ -69,6 +70,7 @@ impl FieldSet {
     pub fn cif0(&self) -> u32
         ensures number { result ≡ mask_of self.now }
         ensures only { IsFieldMask result }
+        ensures set { IsFieldSet self.now }
     {
         mask(&self.values)
     }
@@ -88,6 +90,7 @@ impl FieldSet {
     pub fn read(cif0: u32, bytes: &[u8], at: usize) -> FieldSet
         requires only { IsFieldMask cif0 }
         requires there { 4 * (at + width_of_mask cif0) ≤ length bytes.now }
+        ensures set { IsFieldSet result }
         ensures mask { mask_of result ≡ cif0 }
         ensures words { words_of_set result ≡ take (width_of_mask cif0) (drop at (words_of bytes.now)) }
         ensures only { (other : FieldValues) → IsFieldSet other → mask_of other ≡ cif0

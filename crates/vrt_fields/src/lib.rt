@@ -1,5 +1,5 @@
-//! The twelve fields of a context packet: their bits in CIF0, their words, and the payload format
-//! that one of them holds.
+//! The twelve fields of a context packet: their bits in CIF0, their words, sets of them with their
+//! values, the texts of these, and the payload format that one of them holds.
 #![tactic(auto)]
 
 mod digits;
@@ -7,16 +7,19 @@ mod field;
 mod field_set;
 mod format;
 mod limit;
+mod round_trip;
 mod route;
-mod text;
-mod values;
 #[cfg(test)]
 mod tests;
+mod text;
+mod values;
 
 pub use crate::digits::{push_decimal, push_hexadecimal, push_signed, push_text};
 pub use crate::field::Field;
 pub use crate::field_set::FieldSet;
 pub use crate::format::PayloadFormat;
 pub use crate::limit::Limit;
+pub use crate::round_trip::{one_set_for_words, written_and_read};
 pub use crate::route::Route;
 pub use crate::text::text_of;
+pub use crate::values::is_field_mask;

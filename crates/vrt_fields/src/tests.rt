@@ -1,5 +1,9 @@
+ghost use Rattle.std.specs.Prelude.{◌≡◌, ◌<◌, ◌^◌};
+ghost use Rattle.vrt_fields.specs.Field.{width_of};
+
 use super::*;
-use vrt_words::Place;
+use std::alloc::Global;
+use vrt_words::{NoMemory, Place};
 
 #[test]
 fn a_format_of_eight_bits_has_either_packing(rt: HostRuntime) {
@@ -44,4 +48,206 @@ fn each_field_is_found_by_its_bit(rt: HostRuntime) {
     }
     assert_eq!(rt; Field::of_bit(31), None);
     assert_eq!(rt; Field::of_bit(26), None);
+}
+
+// The set of RF reference frequency and gain, and its words behind two others.
+fn tuned() -> FieldSet {
+    let mut set = FieldSet::empty();
+    set.set(Field::Gain, 0x600);
+    set.set(Field::RfReference, 0x0004_7868_C000_0000);
+    set
+}
+
+#[test]
+fn a_set_holds_what_was_put_into_it(rt: HostRuntime) {
+    let mut set = tuned();
+    assert_eq!(rt; set.get(Field::Gain), Some(0x600));
+    assert_eq!(rt; set.get(Field::RfReference), Some(0x0004_7868_C000_0000));
+    assert_eq!(rt; set.get(Field::Bandwidth), None);
+    assert_eq!(rt; set.cif0(), 0x0880_0000);
+    assert_eq!(rt; set.words(), 3);
+    set.remove(Field::RfReference);
+    assert_eq!(rt; set.get(Field::RfReference), None);
+    assert_eq!(rt; set.get(Field::Gain), Some(0x600));
+    assert_eq!(rt; set.cif0(), 0x0080_0000);
+    assert_eq!(rt; set.words(), 1);
+}
+
+#[test]
+fn a_set_stands_from_the_highest_bit_down(rt: HostRuntime) {
+    let set = tuned();
+    assert_eq!(rt; set.words(), 3);
+    let mut bytes = [0xEE; 84];
+    assert_eq!(rt; set.write(&mut bytes, 2), 3);
+    let mut wanted = [0xEE; 84];
+    let words = [
+        0x00, 0x04, 0x78, 0x68, 0xC0, 0x00, 0x00, 0x00, 0x00, 0x00, 0x06, 0x00,
+    ];
+    wanted[8..20].copy_from_slice(&words);
+    assert_eq!(rt; bytes, wanted);
+    assert_eq!(rt; FieldSet::read(0x0880_0000, &bytes, 2), set);
+    assert_eq!(rt; written_and_read(&set, &mut bytes, 1), set);
+}
+
+#[test]
+fn a_mask_has_bits_of_fields_alone(rt: HostRuntime) {
+    assert_eq!(rt; is_field_mask(0x7BB9_8000), true);
+    assert_eq!(rt; is_field_mask(0), true);
+    assert_eq!(rt; is_field_mask(0xFBB9_8000), false);
+    assert_eq!(rt; is_field_mask(0x0400_0000), false);
+}
+
+// Whether the text of a field is this, behind what was there.
+fn is_text(alloc: Global, field: Field, value: u64, wanted: &[u8]) -> Result<bool, NoMemory>
+    requires { width_of field ≡ 1 → value < 2 ^ 32 }
+{
+    let mut text = Vec::new(alloc);
+    text_of(alloc, field, value, &mut text)?;
+    Ok(text.as_slice() == wanted)
+}
+
+#[test]
+fn the_fields_of_a_context_are_told(rt: HostRuntime) -> Result<(), NoMemory> {
+    let alloc = rt.alloc();
+    assert!(rt;
+        is_text(
+            alloc,
+            Field::ReferencePoint,
+            0x64,
+            b"reference point 00000064"
+        )?
+    );
+    assert!(rt;
+        is_text(
+            alloc,
+            Field::Bandwidth,
+            280_000 << 20,
+            b"bandwidth 280000 Hz + 0/1048576"
+        )?
+    );
+    assert!(rt;
+        is_text(
+            alloc,
+            Field::IfReference,
+            70_000_000 << 20,
+            b"IF 70000000 Hz + 0/1048576"
+        )?
+    );
+    assert!(rt;
+        is_text(
+            alloc,
+            Field::RfReference,
+            1_200_000_000 << 20,
+            b"RF 1200000000 Hz + 0/1048576"
+        )?
+    );
+    assert!(rt; is_text(alloc, Field::IfOffset, 0, b"IF offset 0 Hz + 0/1048576")?);
+    assert!(rt;
+        is_text(
+            alloc,
+            Field::ReferenceLevel,
+            0,
+            b"reference level 0/128 dBm upper 0000"
+        )?
+    );
+    assert!(rt; is_text(alloc, Field::Gain, 0x500, b"gain 1280/128 dB 0/128 dB")?);
+    assert!(rt;
+        is_text(
+            alloc,
+            Field::SampleRate,
+            350_000 << 20,
+            b"sample rate 350000 Hz + 0/1048576"
+        )?
+    );
+    assert!(rt; is_text(alloc, Field::TimeAdjustment, 0, b"time adjustment 0 fs")?);
+    assert!(rt; is_text(alloc, Field::Calibration, 0, b"calibration 0 s")?);
+    assert!(rt; is_text(alloc, Field::State, 0xC00C_0000, b"state C00C0000")?);
+    assert!(rt;
+        is_text(
+            alloc,
+            Field::Format,
+            0xA000_03CF_0000_0000,
+            b"payload A00003CF 00000000"
+        )?
+    );
+    let mut text = Vec::new(alloc);
+    text_of(alloc, Field::Gain, 0x500, &mut text)?;
+    text_of(alloc, Field::State, 1, &mut text)?;
+    assert!(rt; text.as_slice() == b"gain 1280/128 dB 0/128 dBstate 00000001".as_slice());
+    Ok(())
+}
+
+#[test]
+fn numbers_below_zero_are_rounded_down(rt: HostRuntime) -> Result<(), NoMemory> {
+    let alloc = rt.alloc();
+    assert!(rt;
+        is_text(
+            alloc,
+            Field::RfReference,
+            u64::MAX,
+            b"RF -1 Hz + 1048575/1048576"
+        )?
+    );
+    let halves = 0xFFFF_FFFF_FFE8_0000;
+    assert!(rt;
+        is_text(
+            alloc,
+            Field::IfOffset,
+            halves,
+            b"IF offset -2 Hz + 524288/1048576"
+        )?
+    );
+    let whole = 0xFFFF_FFFF_FFE0_0000;
+    assert!(rt;
+        is_text(
+            alloc,
+            Field::IfOffset,
+            whole,
+            b"IF offset -2 Hz + 0/1048576"
+        )?
+    );
+    let least = 1 << 63;
+    assert!(rt;
+        is_text(
+            alloc,
+            Field::Bandwidth,
+            least,
+            b"bandwidth -8796093022208 Hz + 0/1048576"
+        )?
+    );
+    Ok(())
+}
+
+#[test]
+fn signs_stand_in_front_of_numbers(rt: HostRuntime) -> Result<(), NoMemory> {
+    let alloc = rt.alloc();
+    assert!(rt;
+        is_text(
+            alloc,
+            Field::TimeAdjustment,
+            u64::MAX - 4,
+            b"time adjustment -5 fs"
+        )?
+    );
+    let least = b"time adjustment -9223372036854775808 fs";
+    assert!(rt; is_text(alloc, Field::TimeAdjustment, 1 << 63, least)?);
+    let level = b"reference level -128/128 dBm upper ABCD";
+    assert!(rt; is_text(alloc, Field::ReferenceLevel, 0xABCD_FF80, level)?);
+    assert!(rt;
+        is_text(
+            alloc,
+            Field::Gain,
+            0xFFFF_8000,
+            b"gain -32768/128 dB -1/128 dB"
+        )?
+    );
+    assert!(rt;
+        is_text(
+            alloc,
+            Field::Calibration,
+            0xFFFF_FFFF,
+            b"calibration 4294967295 s"
+        )?
+    );
+    Ok(())
 }

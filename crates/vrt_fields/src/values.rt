@@ -1,4 +1,4 @@
-ghost use Rattle.std.specs.Prelude.{◌≡◌, ◌≤◌, ◌<◌, ◌+◌, ◌*◌, ◌^◌, ◌++◌, length, take, drop, slice_index_or, IfSome};
+ghost use Rattle.std.specs.Prelude.{◌≡◌, ◌≤◌, ◌<◌, ◌+◌, ◌*◌, ◌^◌, ◌++◌, ◌↔◌, IsTrue, length, take, drop, slice_index_or, IfSome};
 ghost use Rattle.vrt_fields.specs.declared.field.Field.TheVariants.{ReferencePoint};
 ghost use Rattle.vrt_fields.specs.Field.{bit_of, width_of, fields_in_order};
 ghost use Rattle.vrt_fields.specs.FieldSet.{FieldValues, IsFieldSet, FitsField, index_of, bit_if, words_of_value, mask_with, mask_of, words_if, words_with, words_of_set, bit_in, IsFieldMask, width_of_mask};
@@ -71,6 +71,25 @@ fn bit_where(value: Option<u64>, field: Field) -> u32
         Some(_) => 1 << field.bit(),
         None => 0,
     }
+}
+
+/// Whether `cif0` has bits of fields alone.
+pub fn is_field_mask(cif0: u32) -> bool
+    ensures { IsTrue result ↔ IsFieldMask cif0 }
+{
+    let mut named = 0;
+    for index in 0..12 {
+        named += bit_under(cif0, field_at(index));
+    }
+    named == cif0
+}
+
+// The bit of a field, where `cif0` has it.
+fn bit_under(cif0: u32, field: Field) -> u32
+    ensures number { result ≡ bit_in cif0 field * 2 ^ bit_of field }
+    ensures most { result ≤ 2 ^ bit_of field }
+{
+    bits_of(cif0, field.bit(), 1) << field.bit()
 }
 
 /// How many words the fields of `cif0` take.

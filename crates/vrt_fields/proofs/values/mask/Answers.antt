@@ -1,4 +1,4 @@
-use Rattle.std.proofs.Common.{◌≡◌, ◌+◌, ◌≤◌, ◌<◌, length, drop, sym, ap, ◌∙◌, subst, arith}
+use Rattle.std.proofs.Common.{◌≡◌, sym, subst, arith}
 use Rattle.vrt_fields.specs.Field.{fields_in_order}
 use Rattle.vrt_fields.specs.FieldSet.{mask_of, IsFieldMask}
 use Rattle.vrt_fields.specs.FieldSetLaws.{mask_is_of_fields}
@@ -7,8 +7,13 @@ use Rattle.vrt_fields.proofs.values.mask.Goals as goal
 
 pub overflow_add-mask : goal.overflow_add-mask
 overflow_add-mask c =
-    omega (arith, mask_next c.loop-index.index c.field_at.result (omega arith) c.field_at.ensures c.args.values.now (omega arith),
-    mask_most fields_in_order c.args.values.now, all_bits, c.loop-index.invariant)
+    omega (
+      arith,
+      mask_next c.loop-index.index c.field_at.result (omega arith) c.field_at.ensures c.args.values.now (omega arith),
+      mask_most fields_in_order c.args.values.now,
+      all_bits,
+      c.loop-index.invariant,
+    )
 
 pub loop-index-preserved : goal.loop-index-preserved
 loop-index-preserved c =

@@ -1,4 +1,4 @@
-use Rattle.std.proofs.Common.{◌≡◌, ◌+◌, ◌++◌, ◌<◌, List, ℕ, [], take, drop, length, get_or, None, refl, sym, ap, ◌∙◌, append_assoc, append-nil, length-append, arith}
+use Rattle.std.proofs.Common.{◌≡◌, ◌+◌, ◌++◌, ◌<◌, ℕ, take, drop, length, get_or, None, sym, ap, ◌∙◌, append-nil, length-append, arith}
 use Rattle.vrt_fields.specs.declared.field.Field.{Field}
 use Rattle.vrt_fields.specs.declared.field.Field.TheVariants.{ReferencePoint}
 use Rattle.vrt_fields.specs.Field.{fields_in_order, width_of}

@@ -1,4 +1,4 @@
-use Rattle.std.proofs.Common.{◌≡◌, ◌+◌, ◌≤◌, ◌++◌, length, take, drop}
+use Rattle.std.proofs.Common.{◌≡◌, ◌+◌, ◌++◌, length, take, drop}
 use Rattle.vrt_fields.specs.Field.{fields_in_order}
 use Rattle.vrt_fields.specs.FieldSet.{words_with, words_of_set}
 use Rattle.vrt_fields.proofs.values.spell.Given as goal

@@ -1,10 +1,9 @@
-use Rattle.std.proofs.Common.{◌≡◌, ◌+◌, ◌++◌, ◌<◌, ◌≤◌, List, ℕ, [], ◌∷◌, suc, Option, None, take, drop, length, refl, sym, ap, ◌∙◌, subst, append_assoc, append-nil, length-append, length-drop, arith}
-use Rattle.std.proofs.Math.ListN.{set, length-set}
-use Rattle.std.proofs.Math.Seq.{take-suc-set}
+use Rattle.std.proofs.Common.{◌≡◌, ◌≤◌, List, ℕ, take, length, sym, ap, ◌∙◌, subst, length-drop, arith}
+use Rattle.std.proofs.Math.ListN.{length-set}
 use Rattle.vrt_words.specs.Words.{AreWords}
-use Rattle.vrt_fields.specs.Field.{fields_in_order, width_of}
-use Rattle.vrt_fields.specs.FieldSet.{FieldValues, IsFieldSet, IsFieldMask, bit_in, mask_of, words_of_set, width_of_mask}
-use Rattle.vrt_fields.specs.Values.{values_in, first_value, taken}
+use Rattle.vrt_fields.specs.Field.{fields_in_order}
+use Rattle.vrt_fields.specs.FieldSet.{FieldValues, IsFieldSet, IsFieldMask, mask_of, words_of_set, width_of_mask}
+use Rattle.vrt_fields.specs.Values.{values_in, taken}
 use Rattle.vrt_fields.specs.FieldSetLaws.{AllFit-IsFieldSet, fits_read, mask_read, words_read, one_set}
 use Rattle.vrt_fields.proofs.Steps.{width_next, values_step, values_whole}
 use Rattle.vrt_fields.proofs.values.take_values.Goals as goal
@@ -18,8 +17,13 @@ loop-index-preserved c =
     let behind = c.split_value-value.ensures.rest in
     record {
       size = length-set c.loop-index.values c.loop-index.index c.split_value-value.result.0 ∙ c.loop-index.invariant.size;
-      room = omega (arith, width_next c.loop-index.index c.field_at.result (omega arith) c.field_at.ensures c.args.cif0,
-          ap length behind, length-drop (taken c.args.cif0 c.field_at.result) c.loop-index.rest.now, c.loop-index.invariant.room);
+      room = omega (
+        arith,
+        width_next c.loop-index.index c.field_at.result (omega arith) c.field_at.ensures c.args.cif0,
+        ap length behind,
+        length-drop (taken c.args.cif0 c.field_at.result) c.loop-index.rest.now,
+        c.loop-index.invariant.room,
+      );
       values = values_step c.loop-index.index c.args.cif0 c.field_at.result (omega arith) c.field_at.ensures c.loop-index.values c.loop-index.rest.now _
           c.split_value-value.result.0 _ c.loop-index.invariant.size c.split_value-value.ensures.value behind c.loop-index.invariant.values;
     }

@@ -1,5 +1,4 @@
 use Rattle.std.proofs.Common.{◌≡◌, ◌*◌, ◌≤◌, ◌++◌, length, take, drop, sum_by}
-use Rattle.vrt_words.specs.Words.{AreWords}
 use Rattle.vrt_fields.specs.Field.{width_of, fields_in_order}
 use Rattle.vrt_fields.specs.FieldSet.{bit_in}
 use Rattle.vrt_fields.specs.Values.{values_in}

@@ -5,8 +5,13 @@ use Rattle.vrt_fields.proofs.values.width.Goals as goal
 
 pub overflow_add-width : goal.overflow_add-width
 overflow_add-width c =
-    omega (arith, width_next c.loop-index.index c.field_at.result (omega arith) c.field_at.ensures c.args.cif0,
-    width_most c.args.cif0 fields_in_order, all_widths, c.loop-index.invariant)
+    omega (
+      arith,
+      width_next c.loop-index.index c.field_at.result (omega arith) c.field_at.ensures c.args.cif0,
+      width_most c.args.cif0 fields_in_order,
+      all_widths,
+      c.loop-index.invariant,
+    )
 
 pub loop-index-preserved : goal.loop-index-preserved
 loop-index-preserved c =
