@@ -1,6 +1,6 @@
-ghost use Rattle.std.specs.Prelude.{◌≡◌, ◌≤◌, ◌<◌, ◌+◌, ◌^◌, ◌++◌, ◌∷◌, [], true, drop, length, vec_len, vec_capacity};
+ghost use Rattle.std.specs.Prelude.{◌≡◌, ◌≤◌, ◌<◌, ◌+◌, ◌^◌, ◌++◌, ◌∷◌, [], true, drop, length, replicate, vec_len, vec_capacity};
 ghost use Rattle.std.specs.Fmt.{decimal, signed_decimal, digit_glyph};
-ghost use Rattle.vrt_fields.specs.Text.{hexadecimal, hexadecimal_half};
+ghost use Rattle.vrt_fields.specs.Text.{hexadecimal, hexadecimal_half, padded_decimal};
 
 use vrt_words::bits_of;
 
@@ -27,6 +27,34 @@ pub fn push_decimal(into: &mut Vec<u8>, number: u64)
     let mut digits = [0; 20];
     let start = fill_decimal(&mut digits, number);
     push_text(into, &digits[start..]);
+}
+
+/// Puts a number behind the bytes, in decimal digits with zeros in front of them up to `width`, where
+/// there is room for 20.
+pub fn push_padded(into: &mut Vec<u8>, number: u64, width: usize)
+    requires width { width ≤ 20 }
+    requires room { vec_len into.old + 20 ≤ vec_capacity into.old }
+    ensures text { into.new.items ≡ into.old.items ++ padded_decimal width number }
+    ensures length { vec_len into.new ≤ vec_len into.old + 20 }
+    ensures capacity { vec_capacity into.old ≤ vec_capacity into.new }
+{
+    let mut digits = [0; 20];
+    let start = fill_decimal(&mut digits, number);
+    let text = &digits[start..];
+    push_zeros(into, width.saturating_sub(text.len()));
+    push_text(into, text);
+}
+
+// Puts so many zeros behind the bytes.
+fn push_zeros(into: &mut Vec<u8>, number: usize)
+    requires number { number ≤ 20 }
+    requires room { vec_len into.old + number ≤ vec_capacity into.old }
+    ensures text { into.new.items ≡ into.old.items ++ replicate number 48 }
+    ensures length { vec_len into.new ≡ vec_len into.old + number }
+    ensures capacity { vec_capacity into.old ≤ vec_capacity into.new }
+{
+    let zeros = [b'0'; 20];
+    push_text(into, &zeros[..number]);
 }
 
 /// Puts a number behind the bytes, in decimal digits with its sign where it is negative, where there
