@@ -8,33 +8,47 @@ use Rattle.std.proofs.lemmas.List.{take-append-le}
 use Rattle.std.proofs.lemmas.List.Sums.{sum_by-append}
 use Rattle.difi_io.specs.Faults.{HasCause, Rose-later}
 use Rattle.difi_cmd.specs.declared.frames.Head.{Head}
-use Rattle.difi_cmd.specs.declared.lines.Judgement.{Judgement}
+use Rattle.difi_cmd.specs.declared.lines.Listing.{Listing}
 use Rattle.difi_cmd.specs.declared.report.Report.{Report}
-use Rattle.difi_cmd.specs.Lines.{line, lines, counts, summary, is_accepted}
-use Rattle.difi_cmd.specs.Text.{IsJudged, AreJudged}
-use Rattle.difi_cmd.specs.Progress.{IsCutOff, IsSent, IsReporting}
+use Rattle.difi_cmd.specs.Lines.{Account, entry, entries, counts, summary, is_accepted}
+use Rattle.difi_cmd.specs.Text.{IsAccount, AreAccounts}
+use Rattle.difi_cmd.specs.Progress.{IsCutOff, IsSent, IsReporting, IsNoted}
 
 pub two_behind : (old mid new front back : List ℕ) → mid ≡ old ++ front → new ≡ mid ++ back → new ≡ old ++ (front ++ back)
 two_behind old mid new front back first second =
     second ∙ ap (λ l. l ++ back) first ∙ append_assoc old front back
 
-count_by-append : (p : Judgement → Bool) (js ks : List Judgement) → count_by p (js ++ ks) ≡ count_by p js + count_by p ks
-count_by-append p js ks = sum_by-append (λ j. cond (p j) 1 0) js ks
+regrouped_3 : (old a b c : List ℕ) → ((old ++ a) ++ b) ++ c ≡ old ++ (a ++ b ++ c)
+regrouped_3 old a b c = simp append_assoc
 
--- the lines of frames and of one more
-pub lines-append : (number : ℕ) (js : List Judgement) (j : Judgement) → lines number (js ++ j ∷ []) ≡ lines number js ++ line (number + length js) j
-lines-append number [] j = append-nil (line number j) ∙ ap (λ n. line n j) (omega arith)
-lines-append number (k ∷ js) j =
-    ap (λ l. line number k ++ l) (lines-append (suc number) js j)
-    ∙ ap (λ n. line number k ++ (lines (suc number) js ++ line n j)) (omega arith)
-    ∙ sym (append_assoc (line number k) (lines (suc number) js) (line (number + suc (length js)) j))
+pub three_behind : (old x y z a b c : List ℕ) → x ≡ old ++ a → y ≡ x ++ b → z ≡ y ++ c → z ≡ old ++ (a ++ b ++ c)
+three_behind old x y z a b c p q r =
+    r ∙ ap (λ l. l ++ c) q ∙ ap (λ l. (l ++ b) ++ c) p ∙ regrouped_3 old a b c
 
-pub AreJudged-append : (head : Head) (ds : List (List ℕ)) (js : List Judgement) (d : List ℕ) (j : Judgement) → AreJudged head ds js → IsJudged head d j
-    → AreJudged head (ds ++ d ∷ []) (js ++ j ∷ [])
-AreJudged-append head [] [] d j all one = (one, tt)
-AreJudged-append head [] (k ∷ js) d j all one = absurd all
-AreJudged-append head (c ∷ ds) [] d j all one = absurd all
-AreJudged-append head (c ∷ ds) (k ∷ js) d j all one = (all.0, AreJudged-append head ds js d j all.1 one)
+regrouped_4 : (old a b c d : List ℕ) → (((old ++ a) ++ b) ++ c) ++ d ≡ old ++ (a ++ b ++ c ++ d)
+regrouped_4 old a b c d = simp append_assoc
+
+pub four_behind : (old x y z w a b c d : List ℕ) → x ≡ old ++ a → y ≡ x ++ b → z ≡ y ++ c → w ≡ z ++ d → w ≡ old ++ (a ++ b ++ c ++ d)
+four_behind old x y z w a b c d p q r s =
+    s ∙ ap (λ l. l ++ d) r ∙ ap (λ l. (l ++ c) ++ d) q ∙ ap (λ l. ((l ++ b) ++ c) ++ d) p ∙ regrouped_4 old a b c d
+
+count_by-append : (p : Account → Bool) (told bs : List Account) → count_by p (told ++ bs) ≡ count_by p told + count_by p bs
+count_by-append p told bs = sum_by-append (λ a. cond (p a) 1 0) told bs
+
+-- the entries of frames and of one more
+pub entries-append : (number : ℕ) (told : List Account) (a : Account) → entries number (told ++ a ∷ []) ≡ entries number told ++ entry (number + length told) a
+entries-append number [] a = append-nil (entry number a) ∙ ap (λ n. entry n a) (omega arith)
+entries-append number (b ∷ told) a =
+    ap (λ l. entry number b ++ l) (entries-append (suc number) told a)
+    ∙ ap (λ n. entry number b ++ (entries (suc number) told ++ entry n a)) (omega arith)
+    ∙ sym (append_assoc (entry number b) (entries (suc number) told) (entry (number + suc (length told)) a))
+
+pub AreAccounts-append : (listing : Listing) (head : Head) (ds : List (List ℕ)) (told : List Account) (d : List ℕ) (a : Account) → AreAccounts listing head ds told
+    → IsAccount listing head d a → AreAccounts listing head (ds ++ d ∷ []) (told ++ a ∷ [])
+AreAccounts-append listing head [] [] d a all one = (one, tt)
+AreAccounts-append listing head [] (b ∷ told) d a all one = absurd all
+AreAccounts-append listing head (c ∷ ds) [] d a all one = absurd all
+AreAccounts-append listing head (c ∷ ds) (b ∷ told) d a all one = (all.0, AreAccounts-append listing head ds told d a all.1 one)
 
 -- ---- a text on its way
 
@@ -82,44 +96,43 @@ sent_cut false start held before now waiting text e s = cc
 -- ---- a report
 
 -- one more frame was judged
-pub reporting_more : (start held : Option (List ℕ)) (before now : ℕ) (head : Head) (old new : Report) (ds : List (List ℕ)) (js : List Judgement) (d : List ℕ) (j : Judgement)
-    → IsReporting start held before now head old ds js → IsJudged head d j
-    → new.frames ≡ old.frames + 1 → new.accepted ≡ old.accepted + count_by is_accepted (j ∷ []) → new.text ≡ old.text ++ line (old.frames + 1) j → new.failed ≡ old.failed
-    → IsReporting start held before now head new (ds ++ d ∷ []) (js ++ j ∷ [])
-reporting_more start held before now head old new ds js d j r one frames accepted text failed = record {
-  judged = AreJudged-append head ds js d j r.judged one;
-  frames = omega (arith, frames, r.frames, length-append js (j ∷ []));
-  accepted = accepted ∙ ap (λ n. n + count_by is_accepted (j ∷ [])) r.accepted ∙ sym (count_by-append is_accepted js (j ∷ []));
+pub reporting_more : (start held : Option (List ℕ)) (before now : ℕ) (head : Head) (old new : Report) (ds : List (List ℕ)) (told : List Account) (d : List ℕ) (a : Account)
+    → IsReporting start held before now head old ds told → IsAccount old.listing head d a → IsNoted old new a
+    → IsReporting start held before now head new (ds ++ d ∷ []) (told ++ a ∷ [])
+reporting_more start held before now head old new ds told d a r one noted = record {
+  judged = subst (λ (l : Listing). AreAccounts l head (ds ++ d ∷ []) (told ++ a ∷ [])) (sym noted.listing) (AreAccounts-append old.listing head ds told d a r.judged one);
+  frames = omega (arith, noted.frames, r.frames, length-append told (a ∷ []));
+  accepted = noted.accepted ∙ ap (λ n. n + count_by is_accepted (a ∷ [])) r.accepted ∙ sym (count_by-append is_accepted told (a ∷ []));
   sent =
-      let number : old.frames + 1 ≡ 1 + length js = omega (arith, r.frames) in
-      let all : lines 1 js ++ line (old.frames + 1) j ≡ lines 1 (js ++ j ∷ []) =
-      ap (λ n. lines 1 js ++ line n j) number ∙ sym (lines-append 1 js j) in
-      let more = sent_more old.failed start held before now old.text (lines 1 js) (line (old.frames + 1) j) r.sent in
-      let first = subst (λ (b : Bool). IsSent b start held before now (old.text ++ line (old.frames + 1) j) (lines 1 js ++ line (old.frames + 1) j)) (sym failed) more in
-      let second = subst (λ l. IsSent new.failed start held before now l (lines 1 js ++ line (old.frames + 1) j)) (sym text) first in
+      let number : old.frames + 1 ≡ 1 + length told = omega (arith, r.frames) in
+      let all : entries 1 told ++ entry (old.frames + 1) a ≡ entries 1 (told ++ a ∷ []) =
+      ap (λ n. entries 1 told ++ entry n a) number ∙ sym (entries-append 1 told a) in
+      let more = sent_more old.failed start held before now old.text (entries 1 told) (entry (old.frames + 1) a) r.sent in
+      let first = subst (λ (b : Bool). IsSent b start held before now (old.text ++ entry (old.frames + 1) a) (entries 1 told ++ entry (old.frames + 1) a)) (sym noted.failed) more in
+      let second = subst (λ l. IsSent new.failed start held before now l (entries 1 told ++ entry (old.frames + 1) a)) (sym noted.text) first in
       subst (IsSent new.failed start held before now new.text) all second;
 }
 
 -- what waited was sent
-pub reporting_sent : (start held held' : Option (List ℕ)) (before now now' : ℕ) (head : Head) (old new : Report) (ds : List (List ℕ)) (js : List Judgement)
-    → IsReporting start held before now head old ds js → new.frames ≡ old.frames → new.accepted ≡ old.accepted
-    → IsSent new.failed start held' before now' new.text (lines 1 js) → IsReporting start held' before now' head new ds js
-reporting_sent start held held' before now now' head old new ds js r frames accepted sent = record {
-  judged = r.judged;
+pub reporting_sent : (start held held' : Option (List ℕ)) (before now now' : ℕ) (head : Head) (old new : Report) (ds : List (List ℕ)) (told : List Account)
+    → IsReporting start held before now head old ds told → new.listing ≡ old.listing → new.frames ≡ old.frames → new.accepted ≡ old.accepted
+    → IsSent new.failed start held' before now' new.text (entries 1 told) → IsReporting start held' before now' head new ds told
+reporting_sent start held held' before now now' head old new ds told r listing frames accepted sent = record {
+  judged = subst (λ (l : Listing). AreAccounts l head ds told) (sym listing) r.judged;
   frames = frames ∙ r.frames;
   accepted = accepted ∙ r.accepted;
   sent = sent;
 }
 
 -- the last line was put behind the others
-pub reporting_last : (start held : Option (List ℕ)) (before now : ℕ) (head : Head) (old : Report) (text : List ℕ) (ds : List (List ℕ)) (js : List Judgement)
-    → IsReporting start held before now head old ds js → text ≡ old.text ++ counts old.frames old.accepted
-    → IsSent old.failed start held before now text (lines 1 js ++ summary js)
-reporting_last start held before now head old text ds js r is =
-    let same : counts old.frames old.accepted ≡ summary js =
-    ap (λ n. counts n old.accepted) r.frames ∙ ap (counts (length js)) r.accepted in
-    subst (λ l. IsSent old.failed start held before now l (lines 1 js ++ summary js)) (ap (λ l. old.text ++ l) (sym same) ∙ sym is)
-    (sent_more old.failed start held before now old.text (lines 1 js) (summary js) r.sent)
+pub reporting_last : (start held : Option (List ℕ)) (before now : ℕ) (head : Head) (old : Report) (text : List ℕ) (ds : List (List ℕ)) (told : List Account)
+    → IsReporting start held before now head old ds told → text ≡ old.text ++ counts old.frames old.accepted
+    → IsSent old.failed start held before now text (entries 1 told ++ summary told)
+reporting_last start held before now head old text ds told r is =
+    let same : counts old.frames old.accepted ≡ summary told =
+    ap (λ n. counts n old.accepted) r.frames ∙ ap (counts (length told)) r.accepted in
+    subst (λ l. IsSent old.failed start held before now l (entries 1 told ++ summary told)) (ap (λ l. old.text ++ l) (sym same) ∙ sym is)
+    (sent_more old.failed start held before now old.text (entries 1 told) (summary told) r.sent)
 
 -- ---- equal values for equal ones
 

@@ -5,12 +5,12 @@ use Rattle.std.specs.Prelude.{Option, Result, Ok, Err, OnOk, OnErr}
 use Rattle.std.specs.Io.KnownBytes.{Appends}
 use Rattle.difi_io.specs.Faults.{Rose}
 use Rattle.difi_cmd.specs.declared.frames.Head.{Head}
-use Rattle.difi_cmd.specs.declared.lines.Judgement.{Judgement}
+use Rattle.difi_cmd.specs.declared.lines.Listing.{Listing}
 use Rattle.difi_cmd.specs.declared.report.Report.{Report}
 use Rattle.difi_cmd.specs.Record.{IsFrame, AreFrames, HasFrames}
 use Rattle.difi_cmd.specs.RecordLaws.{HasFrames-none}
-use Rattle.difi_cmd.specs.Lines.{lines, summary}
-use Rattle.difi_cmd.specs.Text.{AreJudged, IsReport}
+use Rattle.difi_cmd.specs.Lines.{Account, entries, summary}
+use Rattle.difi_cmd.specs.Text.{AreAccounts, IsReport}
 use Rattle.difi_cmd.specs.Progress.{IsReporting, IsFinished}
 
 -- frames behind these datagrams complete the frames
@@ -28,32 +28,32 @@ Leads-end frames rest done leads whole none =
 -- some frames in front of the rest were reported
 abbrev pub IsAlong : Option (List ℕ) → Option (List ℕ) → ℕ → ℕ → Head → Report → List ℕ → List ℕ → Type 0
 IsAlong start held before now head report frames rest =
-    (done : List (List ℕ)) × ((judgements : List Judgement) × (IsReporting start held before now head report done judgements × Leads frames done rest))
+    (done : List (List ℕ)) × ((accounts : List Account) × (IsReporting start held before now head report done accounts × Leads frames done rest))
 
 -- what a report of all frames comes to
-pub record Ends {E : Type 0} (result : Result Unit E) (start held : Option (List ℕ)) (before now : ℕ) (head : Head) (frames : List ℕ) : Type 0 where
-  pub all : OnOk result ((text : List ℕ) × (IsReport head frames text × Appends start held text))
-  pub front : OnErr result ((text : List ℕ) × (IsReport head frames text × ((n : ℕ) × Appends start held (take n text))))
+pub record Ends {E : Type 0} (result : Result Unit E) (listing : Listing) (start held : Option (List ℕ)) (before now : ℕ) (head : Head) (frames : List ℕ) : Type 0 where
+  pub all : OnOk result ((text : List ℕ) × (IsReport listing head frames text × Appends start held text))
+  pub front : OnErr result ((text : List ℕ) × (IsReport listing head frames text × ((n : ℕ) × Appends start held (take n text))))
   pub cause : OnErr result (Rose before now)
 
-pub ends : {E : Type 0} (result : Result Unit E) (start held : Option (List ℕ)) (before now : ℕ) (head : Head) (frames : List ℕ) (ds : List (List ℕ)) (js : List Judgement)
-    → AreFrames ds frames → AreJudged head ds js → IsFinished result start held before now (lines 1 js ++ summary js)
-    → Ends result start held before now head frames
-ends (Ok done) start held before now head frames ds js whole judged f = record {
-  all = (lines 1 js ++ summary js, ((ds, (whole, (js, (judged, refl)))), f));
+pub ends : {E : Type 0} (result : Result Unit E) (listing : Listing) (start held : Option (List ℕ)) (before now : ℕ) (head : Head) (frames : List ℕ) (ds : List (List ℕ))
+    (told : List Account) → AreFrames ds frames → AreAccounts listing head ds told → IsFinished result start held before now (entries 1 told ++ summary told)
+    → Ends result listing start held before now head frames
+ends (Ok done) listing start held before now head frames ds told whole judged f = record {
+  all = (entries 1 told ++ summary told, ((ds, (whole, (told, (judged, refl)))), f));
   front = tt;
   cause = tt;
 }
-ends (Err failed) start held before now head frames ds js whole judged f = record {
+ends (Err failed) listing start held before now head frames ds told whole judged f = record {
   all = tt;
-  front = (lines 1 js ++ summary js, ((ds, (whole, (js, (judged, refl)))), (f.0, f.1.1.0)));
+  front = (entries 1 told ++ summary told, ((ds, (whole, (told, (judged, refl)))), (f.0, f.1.1.0)));
   cause = f.1.1.1;
 }
 
 -- no frame was reported
-pub begins : (held : Option (List ℕ)) (faults : ℕ) (head : Head) (report : Report) → report ≡ record { frames = 0; accepted = 0; text = []; failed = false }
-    → IsReporting held held faults faults head report [] []
-begins held faults head report e =
+pub begins : (held : Option (List ℕ)) (faults : ℕ) (head : Head) (listing : Listing) (report : Report)
+    → report ≡ record { listing = listing; frames = 0; accepted = 0; text = []; failed = false } → IsReporting held held faults faults head report [] []
+begins held faults head listing report e =
     subst (λ (r : Report). IsReporting held held faults faults head r [] []) (sym e) (record {
       judged = tt;
       frames = refl;

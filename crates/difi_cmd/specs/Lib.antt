@@ -2,6 +2,7 @@ pub mod Status
 pub mod Record
 pub mod RecordLaws
 pub mod Lines
+pub mod Details
 pub mod Text
 pub mod TextLaws
 pub mod Progress

@@ -3,6 +3,7 @@ use Rattle.std.specs.Prelude.{◌≡◌, ℕ, ◌<◌, ◌≤◌, ◌^◌, List,
 use Rattle.std.specs.Io.KnownBytes.{Consumes, IsAtEnd, Appends}
 use Rattle.difi_cmd.specs.declared.status.Status.{Status}
 use Rattle.difi_cmd.specs.declared.status.Status.TheVariants.{Done, Usage, ReadFault, WriteFault, Memory, BadRecord, TooLong}
+use Rattle.difi_cmd.specs.declared.lines.Listing.{Listing}
 use Rattle.difi_cmd.specs.Record.{IsReadable}
 use Rattle.difi_cmd.specs.Text.{IsOutput}
 
@@ -25,13 +26,13 @@ abbrev pub TakesUnreadable : Option (List ℕ) → Option (List ℕ) → Type 0
 TakesUnreadable old new = (bytes : List ℕ) × (TakesAll old new bytes × ¬ IsReadable bytes)
 
 -- all bytes were taken, they are a record, and its text was written
-abbrev pub WritesAll : Option (List ℕ) → Option (List ℕ) → Option (List ℕ) → Option (List ℕ) → Type 0
-WritesAll left left' held held' = (bytes text : List ℕ) × (TakesAll left left' bytes × (IsOutput bytes text × Appends held held' text))
+abbrev pub WritesAll : Listing → Option (List ℕ) → Option (List ℕ) → Option (List ℕ) → Option (List ℕ) → Type 0
+WritesAll listing left left' held held' = (bytes text : List ℕ) × (TakesAll left left' bytes × (IsOutput listing bytes text × Appends held held' text))
 
 -- the same, and so many bytes of its text were written
-abbrev pub WritesFront : Option (List ℕ) → Option (List ℕ) → Option (List ℕ) → Option (List ℕ) → Type 0
-WritesFront left left' held held' =
-    (bytes text : List ℕ) × (TakesAll left left' bytes × (IsOutput bytes text × ((n : ℕ) × Appends held held' (take n text))))
+abbrev pub WritesFront : Listing → Option (List ℕ) → Option (List ℕ) → Option (List ℕ) → Option (List ℕ) → Type 0
+WritesFront listing left left' held held' =
+    (bytes text : List ℕ) × (TakesAll left left' bytes × (IsOutput listing bytes text × ((n : ℕ) × Appends held held' (take n text))))
 
 -- the status that the bytes give where no read or write fails
 abbrev pub IsVerdict : List ℕ → Status → Type 0

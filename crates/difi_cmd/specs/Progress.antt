@@ -1,12 +1,11 @@
 -- How far a text has come on its way to a sink.
-use Rattle.std.specs.Prelude.{◌≡◌, ℕ, ◌≤◌, Bool, true, false, List, ◌++◌, length, take, count_by, Option, Result, Ok, Err}
+use Rattle.std.specs.Prelude.{◌≡◌, ℕ, ◌+◌, ◌≤◌, Bool, true, false, List, [], ◌∷◌, ◌++◌, length, take, count_by, Option, Result, Ok, Err}
 use Rattle.std.specs.Io.KnownBytes.{Appends}
 use Rattle.difi_io.specs.Faults.{Rose}
 use Rattle.difi_cmd.specs.declared.frames.Head.{Head}
-use Rattle.difi_cmd.specs.declared.lines.Judgement.{Judgement}
 use Rattle.difi_cmd.specs.declared.report.Report.{Report}
-use Rattle.difi_cmd.specs.Lines.{lines, is_accepted}
-use Rattle.difi_cmd.specs.Text.{AreJudged}
+use Rattle.difi_cmd.specs.Lines.{Account, entry, entries, is_accepted}
+use Rattle.difi_cmd.specs.Text.{AreAccounts}
 
 -- a first part of the text was appended since the start, and a write failed
 abbrev pub IsCutOff : Option (List ℕ) → Option (List ℕ) → ℕ → ℕ → List ℕ → Type 0
@@ -24,9 +23,17 @@ abbrev pub IsFinished : {E : Type 0} → Result Unit E → Option (List ℕ) →
 IsFinished (Ok done) start held before now text = Appends start held text
 IsFinished (Err failed) start held before now text = IsCutOff start held before now text
 
--- these datagrams were judged so, and counted, and their lines are on their way
-pub record IsReporting (start held : Option (List ℕ)) (before now : ℕ) (head : Head) (report : Report) (datagrams : List (List ℕ)) (judgements : List Judgement) : Type 0 where
-  pub judged : AreJudged head datagrams judgements
-  pub frames : report.frames ≡ length judgements
-  pub accepted : report.accepted ≡ count_by is_accepted judgements
-  pub sent : IsSent report.failed start held before now report.text (lines 1 judgements)
+-- one more frame was counted, and what is told of it was put behind the text
+pub record IsNoted (old new : Report) (account : Account) : Type 0 where
+  pub listing : new.listing ≡ old.listing
+  pub frames : new.frames ≡ old.frames + 1
+  pub accepted : new.accepted ≡ old.accepted + count_by is_accepted (account ∷ [])
+  pub text : new.text ≡ old.text ++ entry (old.frames + 1) account
+  pub failed : new.failed ≡ old.failed
+
+-- these datagrams were judged so, and counted, and their entries are on their way
+pub record IsReporting (start held : Option (List ℕ)) (before now : ℕ) (head : Head) (report : Report) (datagrams : List (List ℕ)) (accounts : List Account) : Type 0 where
+  pub judged : AreAccounts report.listing head datagrams accounts
+  pub frames : report.frames ≡ length accounts
+  pub accepted : report.accepted ≡ count_by is_accepted accounts
+  pub sent : IsSent report.failed start held before now report.text (entries 1 accounts)

@@ -1,26 +1,27 @@
-ghost use Rattle.std.specs.Prelude.{◌≡◌};
+ghost use Rattle.std.specs.Prelude.{◌≡◌, IfOk, IfErr};
 ghost use Rattle.difi_packet.specs.Packet.{value_of};
-ghost use Rattle.difi_cmd.specs.Text.{IsJudged, accepted};
+ghost use Rattle.difi_cmd.specs.Text.{IsAccepted, IsTurnedAway, accepted};
 
 use crate::frames::Head;
 use crate::lines::{Judgement, StreamKind};
 use difi_packet::{Packet, decode};
 
-/// What is judged of the datagram of a frame.
-pub(crate) fn judge(head: &Head, datagram: &[u8]) -> Judgement
-    ensures { IsJudged head.now datagram.now result }
+/// The packet that the datagram of a frame is, or why it is turned away.
+pub(crate) fn judge<'a>(head: &Head, datagram: &'a [u8]) -> Result<Packet<'a>, Judgement>
+    ensures packet { IfOk result (λ packet. IsAccepted head.now datagram.now (value_of packet)) }
+    ensures turned { IfErr result (IsTurnedAway head.now datagram.now) }
 {
     if datagram.len() > 4 * head.max_words as usize {
-        return Judgement::TooLarge;
+        return Err(Judgement::TooLarge);
     }
     match decode(head.profile, datagram) {
-        Ok(packet) => accepted(&packet),
-        Err(place) => Judgement::Refused { word: place.word },
+        Ok(packet) => Ok(packet),
+        Err(place) => Err(Judgement::Refused { word: place.word }),
     }
 }
 
-// What is judged of a packet.
-fn accepted(packet: &Packet<'_>) -> Judgement
+/// What is judged of a packet.
+pub(crate) fn accepted(packet: &Packet<'_>) -> Judgement
     ensures { result ≡ accepted (value_of packet.now) }
 {
     match packet {

@@ -2,12 +2,12 @@
 //! that it ends with.
 #![tactic(auto)]
 
-mod check;
-mod digits;
+mod details;
 mod frames;
 mod judging;
 mod laws;
 mod lines;
+mod list;
 mod report;
 mod run;
 mod status;

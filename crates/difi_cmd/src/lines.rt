@@ -3,6 +3,15 @@ ghost use Rattle.difi_cmd.specs.Lines.{acceptance, line, outcome, counts};
 
 use crate::text_buffer::TextBuffer;
 
+/// What is told of the frames of a record.
+#[derive(Clone, Copy, Debug, PartialEq, Eq)]
+pub(crate) enum Listing {
+    /// A line for each frame.
+    Check,
+    /// And under it, what an accepted packet holds.
+    Show,
+}
+
 /// The kinds of packet that converters send.
 #[derive(Clone, Copy, Debug, PartialEq, Eq)]
 pub(crate) enum StreamKind {
@@ -24,7 +33,7 @@ pub(crate) enum Judgement {
 
 /// Puts the line of the frame with this number behind the text.
 pub(crate) fn push_line(out: &mut TextBuffer, number: u64, judgement: Judgement)
-    requires { length out.old + 64 ≤ 65792 }
+    requires { length out.old + 64 ≤ 67584 }
     ensures text { out.new ≡ out.old ++ line number judgement }
     ensures length { length out.new ≤ length out.old + 64 }
 {
@@ -36,7 +45,7 @@ pub(crate) fn push_line(out: &mut TextBuffer, number: u64, judgement: Judgement)
 
 // What a line says of a datagram.
 fn push_outcome(out: &mut TextBuffer, judgement: Judgement)
-    requires { length out.old + 37 ≤ 65792 }
+    requires { length out.old + 37 ≤ 67584 }
     ensures text { out.new ≡ out.old ++ outcome judgement }
     ensures length { length out.new ≤ length out.old + 37 }
 {
@@ -67,7 +76,7 @@ fn acceptance_of(kind: StreamKind) -> &'static [u8]
 
 /// Puts the last line behind the text.
 pub(crate) fn push_counts(out: &mut TextBuffer, frames: u64, accepted: u64)
-    requires room { length out.old + 96 ≤ 65792 }
+    requires room { length out.old + 96 ≤ 67584 }
     requires accepted { accepted ≤ frames }
     ensures text { out.new ≡ out.old ++ counts frames accepted }
     ensures length { length out.new ≤ length out.old + 96 }

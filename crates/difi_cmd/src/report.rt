@@ -1,15 +1,20 @@
+use crate::details::push_under;
 use crate::frames::Head;
-use crate::judging::judge;
-use crate::lines::{Judgement, push_counts, push_line};
+use crate::judging::{accepted, judge};
+use crate::lines::{Judgement, Listing, push_counts, push_line};
 use crate::text_buffer::TextBuffer;
 use crate::transfer::write_all;
 use difi_io::{Failed, Sink};
+use difi_packet::Packet;
+use std::alloc::Global;
 
-/// The lines of a record's frames on their way to a sink.
+/// What is told of a record's frames, on its way to a sink.
 ///
 /// A write that fails is the last one. The frames behind it are judged and counted all the same.
 #[derive(Debug, Drop)]
 pub(crate) struct Report {
+    /// What is told.
+    pub listing: Listing,
     /// How many frames were judged.
     pub frames: u64,
     /// How many of them are packets.
@@ -22,15 +27,18 @@ pub(crate) struct Report {
 
 impl Report {
     ghost use Rattle.std.specs.Prelude.{◌≡◌, ℕ, ◌+◌, ◌-◌, ◌^◌, ◌<◌, ◌≤◌, ◌++◌, List, [], ◌∷◌, Option, length, false, count_by};
+    ghost use Rattle.difi_packet.specs.Packet.{value_of};
     ghost use Rattle.difi_cmd.specs.declared.lines.Judgement.{Judgement};
-    ghost use Rattle.difi_cmd.specs.Lines.{line, lines, summary, is_accepted};
-    ghost use Rattle.difi_cmd.specs.Progress.{IsSent, IsReporting, IsFinished};
+    ghost use Rattle.difi_cmd.specs.Lines.{Account, entry, entries, summary, is_accepted, is_packet};
+    ghost use Rattle.difi_cmd.specs.Text.{IsAccount, account_of, turned_away};
+    ghost use Rattle.difi_cmd.specs.Progress.{IsSent, IsReporting, IsFinished, IsNoted};
 
     /// No frame so far.
-    pub fn new(text: TextBuffer) -> Self
-        ensures { result ≡ record { frames = 0; accepted = 0; text = text; failed = false } }
+    pub fn new(listing: Listing, text: TextBuffer) -> Self
+        ensures { result ≡ record { listing = listing; frames = 0; accepted = 0; text = text; failed = false } }
     {
         Report {
+            listing,
             frames: 0,
             accepted: 0,
             text,
@@ -38,37 +46,62 @@ impl Report {
         }
     }
 
-    /// Judges the next frame, counts it and puts its line behind the others.
-    pub fn add<K: Sink>(&mut self, head: &Head, datagram: &[u8], sink: &mut K)
+    /// Judges the next frame, counts it and puts what is told of it behind the others.
+    pub fn add<K: Sink>(&mut self, alloc: Global, head: &Head, datagram: &[u8], sink: &mut K)
         requires fits { self.old.frames + 1 < 2 ^ 64 }
         requires counted { self.old.accepted ≤ self.old.frames }
         requires room { length self.old.text < 65536 }
         ensures frames { self.new.frames ≡ self.old.frames + 1 }
         ensures counted { self.new.accepted ≤ self.new.frames }
         ensures room { length self.new.text < 65536 }
-        ensures reports { (start : Option (List ℕ)) (before : ℕ) (done : List (List ℕ)) (judgements : List Judgement) →
-            IsReporting start (K.held sink.old) before (K.faults sink.old) head.now self.old done judgements →
-            (judgement : Judgement)
+        ensures listing { self.new.listing ≡ self.old.listing }
+        ensures reports { (start : Option (List ℕ)) (before : ℕ) (done : List (List ℕ)) (accounts : List Account) →
+            IsReporting start (K.held sink.old) before (K.faults sink.old) head.now self.old done accounts →
+            (account : Account)
             × IsReporting start (K.held sink.new) before (K.faults sink.new) head.now self.new
-            (done ++ datagram.now ∷ []) (judgements ++ judgement ∷ []) }
+            (done ++ datagram.now ∷ []) (accounts ++ account ∷ []) }
     {
-        let judgement = judge(head, datagram);
-        self.note(judgement);
+        self.tell(alloc, head, datagram);
         if self.text.is_full() {
             self.send(sink);
         }
     }
 
-    // Counts a frame, and puts its line behind the others.
+    // Judges a frame, counts it and puts what is told of it behind the text.
+    fn tell(&mut self, alloc: Global, head: &Head, datagram: &[u8])
+        requires fits { self.old.frames + 1 < 2 ^ 64 }
+        requires counted { self.old.accepted ≤ self.old.frames }
+        requires room { length self.old.text < 65536 }
+        ensures counted { self.new.accepted ≤ self.new.frames }
+        ensures noted { (account : Account) × IsAccount self.old.listing head.now datagram.now account
+            × IsNoted self.old self.new account }
+    {
+        match judge(head, datagram) {
+            Ok(packet) => self.note_packet(alloc, &packet),
+            Err(judgement) => self.note(judgement),
+        }
+    }
+
+    // Counts a packet, and puts what is told of it behind the text.
+    fn note_packet(&mut self, alloc: Global, packet: &Packet<'_>)
+        requires fits { self.old.frames + 1 < 2 ^ 64 }
+        requires counted { self.old.accepted ≤ self.old.frames }
+        requires room { length self.old.text < 65536 }
+        ensures counted { self.new.accepted ≤ self.new.frames }
+        ensures noted { IsNoted self.old self.new (account_of self.old.listing (value_of packet.now)) }
+    {
+        self.note(accepted(packet));
+        push_under(alloc, &mut self.text, self.listing, packet);
+    }
+
+    // Counts a frame, and puts its line behind the text.
     fn note(&mut self, judgement: Judgement)
         requires fits { self.old.frames + 1 < 2 ^ 64 }
         requires counted { self.old.accepted ≤ self.old.frames }
         requires room { length self.old.text < 65536 }
-        ensures frames { self.new.frames ≡ self.old.frames + 1 }
         ensures counted { self.new.accepted ≤ self.new.frames }
-        ensures accepted { self.new.accepted ≡ self.old.accepted + count_by is_accepted (judgement ∷ []) }
-        ensures text { self.new.text ≡ self.old.text ++ line (self.old.frames + 1) judgement }
-        ensures failed { self.new.failed ≡ self.old.failed }
+        ensures room { length self.new.text ≤ length self.old.text + 64 }
+        ensures noted { IsNoted self.old self.new (turned_away judgement) }
     {
         self.frames += 1;
         if let Judgement::Accepted { .. } = judgement {
@@ -81,6 +114,7 @@ impl Report {
     fn send<K: Sink>(&mut self, sink: &mut K)
         ensures frames { self.new.frames ≡ self.old.frames }
         ensures accepted { self.new.accepted ≡ self.old.accepted }
+        ensures listing { self.new.listing ≡ self.old.listing }
         ensures text { self.new.text ≡ [] }
         ensures sent { (start : Option (List ℕ)) (before : ℕ) (text : List ℕ) →
             IsSent self.old.failed start (K.held sink.old) before (K.faults sink.old) self.old.text text →
@@ -93,14 +127,14 @@ impl Report {
     }
 
     /// Writes the last line and all that waits. `Err` where a write failed.
-    pub fn finish<K: Sink>(&mut self, sink: &mut K) -> Result<(), Failed>
-        requires counted { self.old.accepted ≤ self.old.frames }
-        requires room { length self.old.text < 65536 }
+    pub fn finish<K: Sink>(mut self, sink: &mut K) -> Result<(), Failed>
+        requires counted { self.accepted ≤ self.frames }
+        requires room { length self.text < 65536 }
         ensures { (start : Option (List ℕ)) (before : ℕ) (head : Head) (done : List (List ℕ))
-            (judgements : List Judgement) →
-            IsReporting start (K.held sink.old) before (K.faults sink.old) head self.old done judgements →
+            (accounts : List Account) →
+            IsReporting start (K.held sink.old) before (K.faults sink.old) head self done accounts →
             IsFinished result start (K.held sink.new) before (K.faults sink.new)
-            (lines 1 judgements ++ summary judgements) }
+            (entries 1 accounts ++ summary accounts) }
     {
         push_counts(&mut self.text, self.frames, self.accepted);
         self.send(sink);

@@ -1,14 +1,15 @@
-ghost use Rattle.std.specs.Prelude.{◌≡◌, ◌≤◌, ◌<◌, ◌+◌, ◌++◌, ◌↔◌, [], length, IsTrue, IfOk};
+ghost use Rattle.std.specs.Prelude.{◌≡◌, ◌≤◌, ◌<◌, ◌+◌, ◌++◌, ◌^◌, ◌↔◌, [], length, IsTrue, IfOk};
 ghost use Rattle.std.specs.Fmt.{decimal};
-ghost use Rattle.difi_cmd.specs.Lines.{hexadecimal};
+ghost use Rattle.vrt_fields.specs.Field.{width_of};
+ghost use Rattle.vrt_fields.specs.Text.{field_text, hexadecimal, padded_decimal};
 
-use crate::digits::{fill_decimal, glyph};
 use std::alloc::Global;
 use std::marker::Model;
-use vrt_words::{NoMemory, bits_of};
+use vrt_fields::{Field, push_decimal, push_hexadecimal, push_padded, push_text, text_of};
+use vrt_words::NoMemory;
 
 /// The bytes that a buffer has room for.
-const ROOM: usize = 65_792;
+const ROOM: usize = 67_584;
 
 /// A buffer that holds so many bytes is written.
 const FULL: usize = 65_536;
@@ -26,7 +27,7 @@ impl Model for TextBuffer {
 
     ghost view = { λ buffer. buffer.bytes.items };
 
-    ghost invariant = { λ buffer. 65792 ≤ vec_capacity buffer.bytes };
+    ghost invariant = { λ buffer. 67584 ≤ vec_capacity buffer.bytes };
 }
 
 impl TextBuffer {
@@ -63,40 +64,48 @@ impl TextBuffer {
 
     /// Puts a text behind the bytes.
     pub fn push(&mut self, text: &[u8])
-        requires { length self.old + length text.now ≤ 65792 }
+        requires { length self.old + length text.now ≤ 67584 }
         ensures { self.new ≡ self.old ++ text.now }
     {
-        match self.bytes.extend_from_slice(text) {
-            Ok(()) => {}
-            Err(_) => unreachable!(),
-        }
+        push_text(&mut self.bytes, text);
     }
 
     /// Puts a number behind the bytes, in decimal digits.
     pub fn push_decimal(&mut self, number: u64)
-        requires { length self.old + 20 ≤ 65792 }
+        requires { length self.old + 20 ≤ 67584 }
         ensures text { self.new ≡ self.old ++ decimal number }
         ensures length { length self.new ≤ length self.old + 20 }
     {
-        let mut digits = [0; 20];
-        let start = fill_decimal(&mut digits, number);
-        self.push(&digits[start..]);
+        push_decimal(&mut self.bytes, number);
+    }
+
+    /// Puts a number behind the bytes, in twelve decimal digits or more.
+    pub fn push_twelve_digits(&mut self, number: u64)
+        requires { length self.old + 20 ≤ 67584 }
+        ensures text { self.new ≡ self.old ++ padded_decimal 12 number }
+        ensures length { length self.new ≤ length self.old + 20 }
+    {
+        push_padded(&mut self.bytes, number, 12);
     }
 
     /// Puts a word behind the bytes, in eight digits to the base 16.
     pub fn push_hexadecimal(&mut self, word: u32)
-        requires { length self.old + 8 ≤ 65792 }
+        requires { length self.old + 8 ≤ 67584 }
         ensures { self.new ≡ self.old ++ hexadecimal word }
     {
-        self.push(&[
-            glyph(bits_of(word, 28, 4)),
-            glyph(bits_of(word, 24, 4)),
-            glyph(bits_of(word, 20, 4)),
-            glyph(bits_of(word, 16, 4)),
-            glyph(bits_of(word, 12, 4)),
-            glyph(bits_of(word, 8, 4)),
-            glyph(bits_of(word, 4, 4)),
-            glyph(bits_of(word, 0, 4)),
-        ]);
+        push_hexadecimal(&mut self.bytes, word);
+    }
+
+    /// Puts the text of a field behind the bytes.
+    pub fn push_field(&mut self, alloc: Global, field: Field, value: u64)
+        requires room { length self.old + 80 ≤ 67584 }
+        requires fits { width_of field ≡ 1 → value < 2 ^ 32 }
+        ensures text { self.new ≡ self.old ++ field_text field value }
+        ensures length { length self.new ≤ length self.old + 80 }
+    {
+        match text_of(alloc, field, value, &mut self.bytes) {
+            Ok(()) => {}
+            Err(NoMemory) => unreachable!(),
+        }
     }
 }

@@ -2,7 +2,8 @@
 use Rattle.std.proofs.Common.{◌++◌, ap, ◌∙◌}
 use Rattle.std.specs.Prelude.{codes}
 use Rattle.std.specs.Fmt.{decimal}
-use Rattle.difi_cmd.specs.Lines.{acceptance, hexadecimal}
+use Rattle.difi_cmd.specs.Lines.{acceptance}
+use Rattle.vrt_fields.specs.Text.{hexadecimal}
 use Rattle.difi_cmd.proofs.Texts.{two_behind}
 use Rattle.difi_cmd.proofs.lines.push_outcome.Goals as goal
 

@@ -6,6 +6,7 @@ ghost use Rattle.difi_cmd.specs.Text.{IsReport};
 ghost use Rattle.difi_cmd.specs.Outcome.{TakesTooMany, TakesUnreadable, WritesAll, WritesFront};
 
 use crate::frames::{Head, first_frame, record_of};
+use crate::lines::Listing;
 use crate::report::Report;
 use crate::status::Status;
 use crate::text_buffer::TextBuffer;
@@ -13,9 +14,14 @@ use crate::transfer::{ReadStop, read_all};
 use difi_io::{Failed, Sink, Source};
 use std::alloc::Global;
 
-/// Reads a record, and writes a line for each frame that says what is judged of it, and a last one
-/// with their numbers.
-pub(crate) fn check<S: Source, K: Sink>(alloc: Global, source: &mut S, sink: &mut K) -> Status
+/// Reads a record, and writes what the listing tells of each frame, and a last line with their
+/// numbers.
+pub(crate) fn list<S: Source, K: Sink>(
+    alloc: Global,
+    listing: Listing,
+    source: &mut S,
+    sink: &mut K,
+) -> Status
     ensures no_usage { result ≢ Status.Usage }
     ensures read_fault { result ≡ Status.ReadFault →
         Rose (S.faults source.old) (S.faults source.new) × Keeps (K.held sink.old) (K.held sink.new) }
@@ -25,10 +31,10 @@ pub(crate) fn check<S: Source, K: Sink>(alloc: Global, source: &mut S, sink: &mu
         × TakesUnreadable (S.left source.old) (S.left source.new)
         × Keeps (K.held sink.old) (K.held sink.new) }
     ensures write_fault { result ≡ Status.WriteFault → Rose (K.faults sink.old) (K.faults sink.new)
-        × WritesFront (S.left source.old) (S.left source.new) (K.held sink.old) (K.held sink.new) }
+        × WritesFront listing (S.left source.old) (S.left source.new) (K.held sink.old) (K.held sink.new) }
     ensures memory { result ≡ Status.Memory → Keeps (K.held sink.old) (K.held sink.new) }
     ensures done { result ≡ Status.Done →
-        WritesAll (S.left source.old) (S.left source.new) (K.held sink.old) (K.held sink.new) }
+        WritesAll listing (S.left source.old) (S.left source.new) (K.held sink.old) (K.held sink.new) }
 {
     let bytes = match read_all(alloc, source) {
         Ok(bytes) => bytes,
@@ -42,26 +48,33 @@ pub(crate) fn check<S: Source, K: Sink>(alloc: Global, source: &mut S, sink: &mu
     let Ok(text) = TextBuffer::open(alloc) else {
         return Status::Memory;
     };
-    match report(text, &head, frames, sink) {
+    match report(alloc, listing, text, &head, frames, sink) {
         Ok(()) => Status::Done,
         Err(Failed) => Status::WriteFault,
     }
 }
 
-// Judges each frame, and writes its line and the last one.
-fn report<K: Sink>(text: TextBuffer, head: &Head, frames: &[u8], sink: &mut K) -> Result<(), Failed>
+// Judges each frame, and writes what is told of it and the last line.
+fn report<K: Sink>(
+    alloc: Global,
+    listing: Listing,
+    text: TextBuffer,
+    head: &Head,
+    frames: &[u8],
+    sink: &mut K,
+) -> Result<(), Failed>
     requires empty { text ≡ [] }
     requires whole { HasFrames frames.now }
-    ensures all { OnOk result ((text : List ℕ) × (IsReport head.now frames.now text
+    ensures all { OnOk result ((text : List ℕ) × (IsReport listing head.now frames.now text
         × Appends (K.held sink.old) (K.held sink.new) text)) }
-    ensures front { OnErr result ((text : List ℕ) × (IsReport head.now frames.now text
+    ensures front { OnErr result ((text : List ℕ) × (IsReport listing head.now frames.now text
         × ((n : ℕ) × Appends (K.held sink.old) (K.held sink.new) (take n text)))) }
     ensures cause { OnErr result (Rose (K.faults sink.old) (K.faults sink.new)) }
 {
-    let mut report = Report::new(text);
+    let mut report = Report::new(listing, text);
     let mut rest = frames;
     while let Some((datagram, behind)) = first_frame(rest) {
-        report.add(head, datagram, sink);
+        report.add(alloc, head, datagram, sink);
         rest = behind;
     }
     report.finish(sink)

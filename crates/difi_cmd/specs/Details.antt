@@ -1,0 +1,64 @@
+-- What show tells of a packet, line by line, under the line of its frame.
+use Rattle.std.specs.Prelude.{ℕ, Bool, true, false, List, [], ◌++◌, length, flat_map, codes, Option, Some, None}
+use Rattle.std.specs.Fmt.{decimal}
+use Rattle.vrt_words.specs.Words.{words_of, bits}
+use Rattle.vrt_time.specs.Time.{TimeStamp}
+use Rattle.vrt_header.specs.declared.prologue.Prologue.{Prologue}
+use Rattle.vrt_fields.specs.declared.field.Field.{Field}
+use Rattle.vrt_fields.specs.Field.{fields_in_order}
+use Rattle.vrt_fields.specs.Text.{hexadecimal, padded_decimal, field_text}
+use Rattle.difi_data.specs.Data.{DataPacket}
+use Rattle.difi_context.specs.Context.{field_of}
+use Rattle.difi_context.specs.declared.context.ContextRec.{ContextRec}
+use Rattle.difi_version.specs.declared.version.VersionRec.{VersionRec}
+use Rattle.difi_packet.specs.Packet.{PacketValue, DataValue, ContextValue, VersionValue}
+use Rattle.difi_cmd.specs.declared.lines.Listing.{Listing}
+use Rattle.difi_cmd.specs.declared.lines.Listing.TheVariants.{Check, Show}
+
+-- a line under that of a frame
+abbrev pub indented : List ℕ → List ℕ
+indented text = codes "  " ++ text ++ codes "\n"
+
+-- the stamp: whole seconds, and picoseconds in twelve digits
+abbrev pub time : Option TimeStamp → List ℕ
+time (Some stamp) = codes "time " ++ decimal stamp.seconds ++ codes " s " ++ padded_decimal 12 stamp.picos ++ codes " ps"
+time None = codes "time none"
+
+-- what packets of each kind have in front
+abbrev pub common : Prologue → List ℕ
+common prologue = indented (time prologue.stamp) ++ indented (codes "count " ++ decimal prologue.header.count)
+
+-- the change indicator
+abbrev pub changes : Bool → List ℕ
+changes true = codes "changed yes"
+changes false = codes "changed no"
+
+abbrev pub field_line : ContextRec → Field → List ℕ
+field_line rec field = indented (field_text field (field_of rec.fields field))
+
+abbrev pub data_details : DataPacket → List ℕ
+data_details packet =
+    common packet.prologue ++ indented (codes "pad " ++ decimal packet.prologue.pad) ++ indented (codes "payload words " ++ decimal (length (words_of packet.payload)))
+
+abbrev pub context_details : ContextRec → List ℕ
+context_details rec = common rec.prologue ++ indented (changes rec.changed) ++ flat_map (field_line rec) fields_in_order
+
+-- the version word: year, day, revision, type and ICD version
+abbrev pub version : ℕ → List ℕ
+version word =
+    codes "year " ++ decimal (bits word 25 7) ++ codes " day " ++ decimal (bits word 16 9) ++ codes " revision " ++ decimal (bits word 10 6)
+    ++ codes " type " ++ decimal (bits word 6 4) ++ codes " icd " ++ decimal (bits word 0 6)
+
+abbrev pub version_details : VersionRec → List ℕ
+version_details rec =
+    common rec.prologue ++ indented (changes rec.changed) ++ indented (codes "spec " ++ hexadecimal rec.spec) ++ indented (version rec.version)
+
+abbrev pub details : PacketValue → List ℕ
+details (DataValue packet) = data_details packet
+details (ContextValue rec) = context_details rec
+details (VersionValue rec) = version_details rec
+
+-- what stands under the line of an accepted packet: check has nothing there
+abbrev pub under : Listing → PacketValue → List ℕ
+under Check value = []
+under Show value = details value
