@@ -85,3 +85,16 @@ fn a_context_has_its_line_and_the_record_its_last(rt: HostRuntime) -> Result<(),
     assert_eq!(rt; sink.bytes(), text.as_slice());
     Ok(())
 }
+
+#[test]
+fn a_context_is_shown(rt: HostRuntime) -> Result<(), Fail> {
+    let alloc = rt.alloc();
+    let words = [String::from_str(alloc, "show")?];
+    let mut source = MemSource::new(record_of(alloc, &CONTEXT)?, 7, Vec::new(alloc));
+    let mut sink = MemSink::new(alloc, 1000, 10, Vec::new(alloc))?;
+    let status = difi_run(&rt, alloc, &words, &mut source, &mut sink, &NoGate::new());
+    assert_eq!(rt; status, Status::Done);
+    let front = b"frame 1 ok context stream 00000001\n  time 1700000000 s 000000000000 ps\n";
+    assert!(rt; sink.bytes().starts_with(front.as_slice()));
+    Ok(())
+}

@@ -86,6 +86,31 @@ pub fn datagram(alloc: Global, words: &[u32]) -> Result<Vec<u8>, AllocError> {
     Ok(bytes)
 }
 
+/// Runs a line of one word over a record that is read in pieces, and whose listed reads and writes
+/// fail.
+pub fn run_line<R: Threads + Sync>(
+    rt: &R,
+    alloc: Global,
+    line: &str,
+    record: &[u8],
+    piece: usize,
+    reads: &[u64],
+    writes: &[u64],
+) -> Result<Outcome, Fail>
+    requires { 1 ≤ piece }
+{
+    let mut words = Vec::new(alloc);
+    words.push(String::from_str(alloc, line)?)?;
+    let mut source = MemSource::new(record.to_vec(alloc)?, piece, reads.to_vec(alloc)?);
+    let Ok(mut sink) = MemSink::new(alloc, 1 << 16, piece, writes.to_vec(alloc)?) else {
+        return Err(Fail::from("no memory"));
+    };
+    let gate = NoGate::new();
+    let status = difi_run(rt, alloc, &words, &mut source, &mut sink, &gate);
+    let text = sink.bytes().to_vec(alloc)?;
+    Ok(Outcome { status, text })
+}
+
 /// Runs `check` over a record that is read in pieces, and whose listed reads and writes fail.
 pub fn run_with<R: Threads + Sync>(
     rt: &R,
@@ -97,19 +122,15 @@ pub fn run_with<R: Threads + Sync>(
 ) -> Result<Outcome, Fail>
     requires { 1 ≤ piece }
 {
-    let mut words = Vec::new(alloc);
-    words.push(String::from_str(alloc, "check")?)?;
-    let mut source = MemSource::new(record.to_vec(alloc)?, piece, reads.to_vec(alloc)?);
-    let Ok(mut sink) = MemSink::new(alloc, 1 << 16, piece, writes.to_vec(alloc)?) else {
-        return Err(Fail::from("no memory"));
-    };
-    let gate = NoGate::new();
-    let status = difi_run(rt, alloc, &words, &mut source, &mut sink, &gate);
-    let text = sink.bytes().to_vec(alloc)?;
-    Ok(Outcome { status, text })
+    run_line(rt, alloc, "check", record, piece, reads, writes)
 }
 
 /// Runs `check` over a record.
 pub fn run<R: Threads + Sync>(rt: &R, alloc: Global, record: &[u8]) -> Result<Outcome, Fail> {
     run_with(rt, alloc, record, 4096, &[], &[])
+}
+
+/// Runs `show` over a record.
+pub fn show<R: Threads + Sync>(rt: &R, alloc: Global, record: &[u8]) -> Result<Outcome, Fail> {
+    run_line(rt, alloc, "show", record, 4096, &[], &[])
 }
