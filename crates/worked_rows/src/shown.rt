@@ -111,7 +111,17 @@ fn a_data_packet_is_shown(rt: HostRuntime) -> Result<(), Fail> {
 fn a_version_packet_is_shown(rt: HostRuntime) -> Result<(), Fail> {
     // The last picosecond of a second; year 20, day 335, revision 1, type 2, ICD version 3.
     let words = [
-        0x5960_000B, 1, 0x6A_621E, 0x0001_0004, 0x6553_F100, 232, 0xD4A5_0FFF, 2, 0x0C, 4, 0x294F_0483,
+        0x5960_000B,
+        1,
+        0x6A_621E,
+        0x0001_0004,
+        0x6553_F100,
+        232,
+        0xD4A5_0FFF,
+        2,
+        0x0C,
+        4,
+        0x294F_0483,
     ];
     let record = record_of(rt.alloc(), &words)?;
     let outcome = show(&rt, rt.alloc(), record.as_slice())?;
