@@ -115,11 +115,12 @@ pub record IsRouteCount (second : Bool) (max_words data_window pending routes : 
   pub most : routes ≤ most_routes second
   pub buffers : routes * (data_window + 1 + pending) * (4 * max_words) ≤ 2 ^ 30
 
--- no identity is all 0, a word has 12 bytes of 0 behind it, and a UUID is free
-pub record IsIdentityField (form word high low : ℕ) : Type 0 where
+-- the four words of an identity: none is all 0, a word has three words of 0 behind it, and a UUID is free
+pub record IsIdentityField (form word second third fourth : ℕ) : Type 0 where
   pub none : form ≡ 0 → word ≡ 0
-  pub behind_high : form ≤ 1 → high ≡ 0
-  pub behind_low : form ≤ 1 → low ≡ 0
+  pub behind_second : form ≤ 1 → second ≡ 0
+  pub behind_third : form ≤ 1 → third ≡ 0
+  pub behind_fourth : form ≤ 1 → fourth ≡ 0
 
 -- a word of the initial fields, with the one in front of it: those of the rate and of the payload format have rules
 pub record IsInitialWord (place before word : ℕ) : Type 0 where
@@ -171,7 +172,8 @@ IsRightIn second Kept front = (2 ≤ number_at 28 4 front) × (number_at 28 4 fr
 IsRightIn second Pending front = (1 ≤ number_at 32 4 front) × (number_at 32 4 front ≤ most_pending second)
 IsRightIn second Routes front = IsRouteCount second (number_at 16 4 front) (number_at 20 4 front) (number_at 32 4 front) (number_at 36 4 front)
 IsRightIn second IdentityForm front = number_at 40 4 front ≤ 2
-IsRightIn second Identity front = IsIdentityField (number_at 40 4 front) (number_at 44 4 front) (number_at 48 4 front) (number_at 52 8 front)
+IsRightIn second Identity front = 
+    IsIdentityField (number_at 40 4 front) (number_at 44 4 front) (number_at 48 4 front) (number_at 52 4 front) (number_at 56 4 front)
 IsRightIn second (Initial word) front = IsInitialWord word (number_at (56 + 4 * word) 4 front) (number_at (60 + 4 * word) 4 front)
 IsRightIn second (Flag bound) front = number_at (136 + 28 * bound) 4 front ≤ 1
 IsRightIn second (Step bound) front = IsStep (number_at (136 + 28 * bound) 4 front) (number_at (140 + 28 * bound) 8 front)

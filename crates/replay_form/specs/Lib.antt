@@ -1,3 +1,5 @@
 pub mod Numbers
 pub mod NumberLaws
 pub mod HeadFields
+pub mod Head
+pub mod HeadLaws

@@ -30,3 +30,14 @@ number_at-append offset width front back h =
     sym (number_at-take offset width (offset + width) (front ++ back) (omega arith))
     ∙ ap (number_at offset width) (take-append-le (offset + width) front back h)
     ∙ number_at-take offset width (offset + width) front (omega arith)
+
+-- a number among the bytes between two offsets
+pub number_at-between : (offset size place width : ℕ) (bytes : List ℕ) → place + width ≤ size
+    → big_from 0 width (drop place (take size (drop offset bytes))) ≡ number_at (offset + place) width bytes
+unfolding number_at
+number_at-between offset size place width bytes h =
+    let e : place + 0 ≡ place = omega arith in
+    big_from-drop place 0 width (take size (drop offset bytes))
+    ∙ ap (λ o. big_from o width (take size (drop offset bytes))) e
+    ∙ big_from-take place width size (drop offset bytes) h
+    ∙ big_from-drop offset place width bytes

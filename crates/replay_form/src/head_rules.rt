@@ -67,11 +67,11 @@ fn is_route_count(second: bool, front: &[u8]) -> bool
 fn is_identity(front: &[u8]) -> bool
     requires { 60 ≤ length front.now }
     ensures { IsTrue result ↔ IsIdentityField (number_at 40 4 front.now) (number_at 44 4 front.now)
-        (number_at 48 4 front.now) (number_at 52 8 front.now) }
+        (number_at 48 4 front.now) (number_at 52 4 front.now) (number_at 56 4 front.now) }
 {
     let form = u32_at(front, 40);
     let word = u32_at(front, 44);
-    let behind = u32_at(front, 48) == 0 && u64_at(front, 52) == 0;
+    let behind = u32_at(front, 48) == 0 && u32_at(front, 52) == 0 && u32_at(front, 56) == 0;
     (form != 0 || word == 0) && (form > 1 || behind)
 }
 

@@ -5,3 +5,14 @@ mod head_field;
 mod head_rules;
 mod judge_head;
 mod numbers;
+mod read_head;
+mod record_head;
+mod route_list;
+
+pub use crate::record_head::RecordHead;
+pub use crate::route_list::RouteList;
+pub use cam_field::Ident;
+pub use sample_binder::Limits;
+pub use vrt_fields::{Limit, Route};
+pub use vrt_header::Profile;
+pub use vrt_time::Stamp;

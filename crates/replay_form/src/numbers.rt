@@ -1,5 +1,5 @@
-ghost use Rattle.std.specs.Prelude.{◌≡◌, ◌+◌, ◌≤◌, ◌<◌, ◌^◌, length};
-ghost use Rattle.replay_form.specs.Numbers.{number_at, signed_at};
+ghost use Rattle.std.specs.Prelude.{◌≡◌, ◌+◌, ◌*◌, ◌≤◌, ◌<◌, ◌^◌, length};
+ghost use Rattle.replay_form.specs.Numbers.{AreNumbers, number_at, signed_at};
 
 use byteorder::{BigEndian, ByteOrder};
 
@@ -31,4 +31,13 @@ pub(crate) fn i64_at(bytes: &[u8], offset: usize) -> i64
     ensures { result ≡ signed_at offset bytes.now }
 {
     u64_at(bytes, offset).cast_signed()
+}
+
+// The words from an offset on, as many as there is room for.
+pub(crate) fn read_words(bytes: &[u8], offset: usize, into: &mut [u32])
+    requires { offset + 4 * length into.old ≤ length bytes.now }
+    ensures { AreNumbers into.new offset (length into.old) bytes.now }
+{
+    let end = offset + 4 * into.len();
+    BigEndian::read_u32_into(&bytes[offset..end], into);
 }
