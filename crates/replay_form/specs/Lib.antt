@@ -3,3 +3,4 @@ pub mod NumberLaws
 pub mod HeadFields
 pub mod Head
 pub mod HeadLaws
+pub mod FrameFields
