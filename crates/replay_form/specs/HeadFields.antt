@@ -218,12 +218,15 @@ pub record IsHeadWrongAt (bytes : List ℕ) (offset : ℕ) : Type 0 where
   pub first : IsFirstWrong bytes index
   pub place : offset ≡ offset_of (is_second bytes) (field_at (is_second bytes) index)
 
+-- so many fields are there and right, and the next field of the header is not all there
+pub record IsHeadOpen (bytes : List ℕ) (judged : ℕ) : Type 0 where
+  pub among : judged < field_count bytes
+  pub before : AreRight bytes judged
+  pub missing : length bytes < end_of (is_second bytes) (field_at (is_second bytes) judged)
+
 -- the bytes end inside a header, and no field that is there is wrong
-pub record IsHeadPart (bytes : List ℕ) : Type 0 where
-  pub index : ℕ
-  pub among : index < field_count bytes
-  pub before : AreRight bytes index
-  pub missing : length bytes < end_of (is_second bytes) (field_at (is_second bytes) index)
+abbrev pub IsHeadPart : List ℕ → Type 0
+IsHeadPart bytes = (judged : ℕ) × IsHeadOpen bytes judged
 
 -- the bytes are a whole header, and no field is wrong
 pub record IsWholeHead (bytes : List ℕ) : Type 0 where

@@ -1,11 +1,12 @@
 -- What the rules of the fields say of a whole header's numbers.
-use Rattle.std.proofs.Common.{◌≡◌, ℕ, ◌+◌, ◌*◌, ◌-◌, ◌/◌, ◌%◌, ◌<◌, ◌≤◌, ◌^◌, Bool, true, false, nat_lt, List, length, take, refl, sym, ap, ◌∙◌, subst, lit<, arith}
+use Rattle.std.proofs.Common.{◌≡◌, ℕ, ◌+◌, ◌*◌, ◌-◌, ◌/◌, ◌%◌, ◌<◌, ◌≤◌, ◌^◌, Bool, true, false, nat_lt, zero, suc, get_or, List, length, take, refl, sym, ap, ◌∙◌, subst, lit<, lit≤, inl, inr, arith}
+use Rattle.std.proofs.lemmas.Bool.{cases_order}
 use Rattle.std.proofs.lemmas.Grind.{common_steps}
 use Rattle.vrt_header.specs.Profile.{IsProfile, profile_of}
 use Rattle.replay_form.specs.Numbers.{number_at}
 use Rattle.replay_form.specs.NumberLaws.{number_at-take}
-use Rattle.replay_form.specs.HeadFields.{AreRight, IsGood, IsWholeHead, route_size, IsRightIn, IsRouteCount, is_second, field_at, field_count, most_pending, route_at, route_fields, route_field}
-use Rattle.replay_form.specs.declared.head_field.HeadField.TheVariants.{Number}
+use Rattle.replay_form.specs.HeadFields.{AreRight, IsGood, IsWholeHead, route_size, IsRightIn, IsRouteCount, is_second, field_at, field_count, head_size, end_of, most_pending, route_at, route_fields, route_field, bound_field, first_fields}
+use Rattle.replay_form.specs.declared.head_field.HeadField.TheVariants.{Magic, Number, Zero}
 
 -- the numbers of the header's first part
 pub record HeadRanges (bytes : List ℕ) : Type 0 where
@@ -114,3 +115,91 @@ has_ports bytes route whole form h =
 pub route_there : (bytes : List ℕ) (route : ℕ) → IsWholeHead bytes → route < number_at 36 4 bytes → route_at (is_second bytes) (route + 1) ≤ length bytes
 route_there bytes route whole h =
     omega (arith, whole.all, route_inside (is_second bytes) route (number_at 36 4 bytes) h)
+
+-- each field ends within the header
+first_inside : (second : Bool) (k : ℕ) → k < 11 → end_of second (get_or first_fields k Magic) ≤ 332
+first_inside second zero h = lit≤ tt
+first_inside second (suc zero) h = lit≤ tt
+first_inside second (suc (suc zero)) h = lit≤ tt
+first_inside second (suc (suc (suc zero))) h = lit≤ tt
+first_inside second (suc (suc (suc (suc zero)))) h = lit≤ tt
+first_inside second (suc (suc (suc (suc (suc zero))))) h = lit≤ tt
+first_inside second (suc (suc (suc (suc (suc (suc zero)))))) h = lit≤ tt
+first_inside second (suc (suc (suc (suc (suc (suc (suc zero))))))) h = lit≤ tt
+first_inside second (suc (suc (suc (suc (suc (suc (suc (suc zero)))))))) h = lit≤ tt
+first_inside second (suc (suc (suc (suc (suc (suc (suc (suc (suc zero))))))))) h = lit≤ tt
+first_inside second (suc (suc (suc (suc (suc (suc (suc (suc (suc (suc zero)))))))))) h = lit≤ tt
+first_inside second (suc (suc (suc (suc (suc (suc (suc (suc (suc (suc (suc i))))))))))) h = absurd (omega arith)
+
+bound_ends : (second : Bool) (bound place : ℕ) → end_of second (bound_field bound place) ≤ 164 + 28 * bound
+bound_ends second bound place = grind (arith, common_steps)
+
+initial_inside : (second : Bool) (k : ℕ) → 11 ≤ k → k < 30 → end_of second (field_at second k) ≤ 332
+initial_inside second k g h =
+    let a : nat_lt k 11 ≡ false = grind (arith, common_steps) in
+    let b : nat_lt k 30 ≡ true = grind (arith, common_steps) in
+    rw (a, b) (omega arith)
+
+bounds_inside : (second : Bool) (k : ℕ) → 30 ≤ k → k < 58 → end_of second (field_at second k) ≤ 332
+bounds_inside second k g h =
+    let a : nat_lt k 11 ≡ false = grind (arith, common_steps) in
+    let b : nat_lt k 30 ≡ false = grind (arith, common_steps) in
+    let d : nat_lt k 58 ≡ true = grind (arith, common_steps) in
+    let e = bound_ends second ((k - 30) / 4) ((k - 30) % 4) in
+    let most : end_of second (bound_field ((k - 30) / 4) ((k - 30) % 4)) ≤ 332 = omega arith in
+    rw (a, b, d) most
+
+fixed_inside : (second : Bool) (k : ℕ) → k < 58 → end_of second (field_at second k) ≤ 332
+fixed_inside second k h =
+    elim (cases_order k 11) [
+      | inl e ↦ initial_inside second k (omega arith) (omega arith)
+      | inr (inl less) ↦ (let a : nat_lt k 11 ≡ true = grind (arith, common_steps) in rw a (first_inside second k less))
+      | inr (inr more) ↦ elim (cases_order k 30) [
+        | inl e ↦ bounds_inside second k (omega arith) h
+        | inr (inl less) ↦ initial_inside second k (omega arith) less
+        | inr (inr above) ↦ bounds_inside second k (omega arith) h
+      ]
+    ]
+
+route_ends : (second : Bool) (route place : ℕ) → place < route_fields second → end_of second (route_field second route place) ≤ route_at second (route + 1)
+route_ends true route place h = grind (arith, common_steps)
+route_ends false route place h = grind (arith, common_steps)
+
+quotient : (second : Bool) (k n : ℕ) → 58 ≤ k → k < 58 + route_fields second * n → (k - 58) / route_fields second < n
+quotient true k n g h = omega arith
+quotient false k n g h = omega arith
+
+rest : (second : Bool) (k : ℕ) → (k - 58) % route_fields second < route_fields second
+rest true k = omega arith
+rest false k = omega arith
+
+behind_ends : (second : Bool) (k n : ℕ) → 58 ≤ k → k < 58 + route_fields second * n → end_of second (field_at second k) ≤ 332 + route_size second * n
+behind_ends second k n g h =
+    let r = (k - 58) / route_fields second in
+    let place = (k - 58) % route_fields second in
+    let a = route_ends second r place (rest second k) in
+    let b = route_inside second r n (quotient second k n g h) in
+    let e : end_of second (route_field second r place) ≤ 332 + route_size second * n = omega arith in
+    subst (λ field. end_of second field ≤ 332 + route_size second * n) (sym (field_behind second k g)) e
+
+pub field_ends : (second : Bool) (k n : ℕ) → k < 58 + route_fields second * n → end_of second (field_at second k) ≤ 332 + route_size second * n
+field_ends second k n h =
+    elim (cases_order k 58) [
+      | inl e ↦ behind_ends second k n (omega arith) h
+      | inr (inl less) ↦ (let f = fixed_inside second k less in omega arith)
+      | inr (inr more) ↦ behind_ends second k n (omega arith) h
+    ]
+
+-- the last field ends where the header does
+last_of : (second : Bool) (bytes : List ℕ) (n : ℕ) → ((i : ℕ) → i < 58 + route_fields second * n → IsGood second (field_at second i) bytes)
+    → 332 + route_size second * n ≤ length bytes
+last_of second bytes zero right = omega (arith, (right 57 (omega arith)).there)
+last_of true bytes (suc n) right =
+    let good : IsGood true (Zero n) bytes = subst (λ field. IsGood true field bytes) (field_in_route true n 6 (lit< tt)) (right (58 + (7 * n + 6)) (omega arith)) in
+    omega (arith, good.there)
+last_of false bytes (suc n) right =
+    let good : IsGood false (Zero n) bytes = subst (λ field. IsGood false field bytes) (field_in_route false n 2 (lit< tt)) (right (58 + (3 * n + 2)) (omega arith)) in
+    omega (arith, good.there)
+
+pub last_ends : (bytes : List ℕ) → AreRight bytes (field_count bytes) → head_size bytes ≤ length bytes
+last_ends bytes right = last_of (is_second bytes) bytes (number_at 36 4 bytes) right

@@ -4,3 +4,4 @@ pub mod HeadFields
 pub mod Head
 pub mod HeadLaws
 pub mod FrameFields
+pub mod PrefixLaws
