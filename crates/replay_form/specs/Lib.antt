@@ -5,3 +5,4 @@ pub mod Head
 pub mod HeadLaws
 pub mod FrameFields
 pub mod PrefixLaws
+pub mod Taking

@@ -9,6 +9,7 @@ mod numbers;
 mod read_head;
 mod record_head;
 mod route_list;
+mod take;
 
 pub use crate::record_head::RecordHead;
 pub use crate::route_list::RouteList;
