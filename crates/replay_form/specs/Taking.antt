@@ -2,7 +2,7 @@
 use Rattle.std.specs.Prelude.{◌≡◌, ℕ, ◌<◌, ◌≤◌, List, ◌++◌, length, take}
 use Rattle.vrt_time.specs.Time.{TimeStamp}
 use Rattle.replay_form.specs.HeadFields.{IsHeadOpen, IsJudged, IsWholeHead, field_count, head_size}
-use Rattle.replay_form.specs.FrameFields.{IsFramePart, IsWholeFrame}
+use Rattle.replay_form.specs.FrameFields.{IsFramePart, IsWholeFrame, AreFrameRight, frame_size}
 use Rattle.replay_form.specs.declared.take.HeadTaken.{HeadTaken}
 use Rattle.replay_form.specs.declared.take.HeadTaken.TheVariants as heads
 use Rattle.replay_form.specs.declared.take.FrameTaken.{FrameTaken}
@@ -27,6 +27,12 @@ pub record IsHeadWhole (old piece new : List ℕ) (count : ℕ) : Type 0 where
 abbrev pub IsHeadTaken : List ℕ → List ℕ → HeadTaken → List ℕ → Type 0
 IsHeadTaken old piece (heads.Part judged) new = IsPartTaken old piece new judged
 IsHeadTaken old piece (heads.Whole count) new = IsHeadWhole old piece new count
+
+-- the part of a frame in front of its datagram is there and right
+pub record IsFrameBegun (last : TimeStamp) (bytes : List ℕ) : Type 0 where
+  pub there : 20 ≤ length bytes
+  pub within : length bytes ≤ frame_size bytes
+  pub right : AreFrameRight last bytes 5
 
 -- the same of a frame
 pub record IsFramePartTaken (last : TimeStamp) (old piece new : List ℕ) : Type 0 where

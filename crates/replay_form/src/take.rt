@@ -1,6 +1,6 @@
 ghost use Rattle.std.specs.Prelude.{◌≡◌, ◌+◌, ◌*◌, ◌<◌, ◌≤◌, ◌^◌, ◌++◌, true, false, length, take, drop, vec_len, vec_capacity, IfOk, IfErr};
 ghost use Rattle.replay_form.specs.HeadFields.{IsHeadOpen, IsWholeHead, IsHeadWrongAt, head_size};
-ghost use Rattle.replay_form.specs.Taking.{IsHeadTaken, IsHeadBegun};
+ghost use Rattle.replay_form.specs.Taking.{IsHeadTaken, IsHeadBegun, IsFrameTaken, IsFrameBegun};
 ghost use Rattle.replay_form.specs.FrameFields.{IsFramePart, IsWholeFrame, IsFrameWrongAt};
 
 use crate::frame_field::{FRAME_HEAD, judge_frame, size_of_frame};
@@ -41,6 +41,7 @@ fn take_up_to(held: &mut Vec<u8>, piece: &[u8], size: usize) -> usize
     requires { size ≤ vec_capacity held.old }
     ensures few { result ≤ length piece.now }
     ensures held { held.new.items ≡ held.old.items ++ take result piece.now }
+    ensures len { vec_len held.new ≡ length held.new.items }
     ensures all { length held.new.items < size → result ≡ length piece.now }
     ensures within { length held.old.items ≤ size → length held.new.items ≤ size }
     ensures none { size ≤ length held.old.items → result ≡ 0 }
@@ -99,5 +100,47 @@ fn take_routes(held: &mut Vec<u8>, judged: usize, piece: &[u8]) -> Result<HeadTa
         Ok(HeadTaken::Part(judged))
     } else {
         Ok(HeadTaken::Whole(count))
+    }
+}
+
+/// Takes bytes of the piece until a frame is whole, and judges each field as soon as it is there.
+/// `Err` has the offset of the first field that is wrong, in the frame.
+pub(crate) fn take_frame(
+    held: &mut Vec<u8>,
+    last: Stamp,
+    piece: &[u8],
+) -> Result<FrameTaken, usize>
+    requires begun { IsFramePart last held.old.items }
+    requires room { 65555 ≤ vec_capacity held.old }
+    ensures taken { IfOk result (λ taken. IsFrameTaken last held.old.items piece.now taken held.new.items) }
+    ensures wrong { IfErr result (λ offset. IsFrameWrongAt last (held.old.items ++ piece.now) offset) }
+    ensures capacity { vec_capacity held.old ≤ vec_capacity held.new }
+{
+    let first = take_up_to(held, piece, FRAME_HEAD);
+    if let Err(offset) = judge_frame(last, held) {
+        return Err(offset);
+    }
+    if held.len() < FRAME_HEAD {
+        return Ok(FrameTaken::Part);
+    }
+    match take_datagram(held, last, &piece[first..]) {
+        FrameTaken::Part => Ok(FrameTaken::Part),
+        FrameTaken::Whole(count) => Ok(FrameTaken::Whole(first + count)),
+    }
+}
+
+// The same, where the part in front of the datagram is there.
+fn take_datagram(held: &mut Vec<u8>, last: Stamp, piece: &[u8]) -> FrameTaken
+    requires begun { IsFrameBegun last held.old.items }
+    requires room { 65555 ≤ vec_capacity held.old }
+    ensures taken { IsFrameTaken last held.old.items piece.now result held.new.items }
+    ensures capacity { vec_capacity held.old ≤ vec_capacity held.new }
+{
+    let size = size_of_frame(held);
+    let count = take_up_to(held, piece, size);
+    if held.len() < size {
+        FrameTaken::Part
+    } else {
+        FrameTaken::Whole(count)
     }
 }
