@@ -6,3 +6,5 @@ pub mod HeadLaws
 pub mod FrameFields
 pub mod PrefixLaws
 pub mod Taking
+pub mod Record
+pub mod Reading
