@@ -77,6 +77,106 @@ impl RecordReader {
             fault: None,
         })
     }
+
+    /// Takes bytes of the piece up to the next whole header or frame, and answers how many.
+    ///
+    /// `More` says that all were taken. `Err` comes at the first field that is wrong, as soon as its
+    /// bytes are there, and then at every later call.
+    pub fn feed(&mut self, piece: &[u8]) -> Result<(usize, Event), RecordFault>
+        requires { self.old.fault ≡ None → self.old.start + length (begun self.old) + length piece.now < 2 ^ 63 }
+        ensures step { IfOk result (λ step. IsStep self.old piece.now step.0 step.1 self.new) }
+        ensures wrong { IfErr result (λ fault. IsFailed self.old.fault self.old piece.now fault.offset self.new) }
+    {
+        if let Some(fault) = self.fault {
+            return Err(fault);
+        }
+        self.let_go();
+        if self.started {
+            self.feed_frame(piece)
+        } else {
+            self.feed_head(piece)
+        }
+    }
+
+    // Gives up the frame that was whole.
+    fn let_go(&mut self)
+        ensures { self.new ≡ record self.old { whole = false; held = begun self.old } }
+    {
+        if self.whole {
+            self.held.clear();
+            self.whole = false;
+        }
+    }
+
+    // The same before the header is whole.
+    fn feed_head(&mut self, piece: &[u8]) -> Result<(usize, Event), RecordFault>
+        requires sound { self.old.fault ≡ None }
+        requires first { self.old.started ≡ false }
+        requires small { self.old.start + length (begun self.old) + length piece.now < 2 ^ 63 }
+        ensures step { IfOk result (λ step. IsStep self.old piece.now step.0 step.1 self.new) }
+        ensures wrong { IfErr result (λ fault. IsNewFault self.old piece.now fault.offset self.new) }
+    {
+        match take_head(&mut self.held, self.judged, piece) {
+            Ok(HeadTaken::Part(judged)) => {
+                self.judged = judged;
+                Ok((piece.len(), Event::More))
+            }
+            Ok(HeadTaken::Whole(count)) => {
+                let routes = mem::replace(&mut self.routes, Vec::new(self.alloc));
+                self.head = read_head(&self.held, routes);
+                self.start = self.held.len() as u64;
+                self.held.clear();
+                self.last = earliest();
+                self.started = true;
+                Ok((count, Event::Head))
+            }
+            Err(offset) => {
+                let fault = RecordFault {
+                    offset: offset as u64,
+                };
+                self.fault = Some(fault);
+                Err(fault)
+            }
+        }
+    }
+
+    // The same behind the header.
+    fn feed_frame(&mut self, piece: &[u8]) -> Result<(usize, Event), RecordFault>
+        requires sound { self.old.fault ≡ None }
+        requires later { self.old.started ≡ true }
+        requires idle { self.old.whole ≡ false }
+        requires small { self.old.start + length (begun self.old) + length piece.now < 2 ^ 63 }
+        ensures step { IfOk result (λ step. IsStep self.old piece.now step.0 step.1 self.new) }
+        ensures wrong { IfErr result (λ fault. IsNewFault self.old piece.now fault.offset self.new) }
+    {
+        match take_frame(&mut self.held, self.last, piece) {
+            Ok(FrameTaken::Part) => Ok((piece.len(), Event::More)),
+            Ok(FrameTaken::Whole(count)) => {
+                self.last = stamp_in(self.last, &self.held);
+                self.start += self.held.len() as u64;
+                self.whole = true;
+                Ok((count, Event::Frame))
+            }
+            Err(offset) => {
+                let fault = RecordFault {
+                    offset: self.start + offset as u64,
+                };
+                self.fault = Some(fault);
+                Err(fault)
+            }
+        }
+    }
+}
+
+// The stamp of a whole frame.
+fn stamp_in(last: Stamp, bytes: &[u8]) -> Stamp
+    requires { IsWholeFrame last bytes.now }
+    ensures { result ≡ stamp_of (number_at 0 4 bytes.now) (number_at 4 8 bytes.now) }
+{
+    match Stamp::of_picos(u32_at(bytes, 0), u64_at(bytes, 4)) {
+        Some(stamp) => stamp,
+        None => unreachable!(),
+    }
 }
 
 // The stamp that no other is before.
