@@ -8,4 +8,6 @@ pub mod FrameLaws
 pub mod PrefixLaws
 pub mod Taking
 pub mod Record
+pub mod RecordLaws
 pub mod Reading
+pub mod ReadingLaws
