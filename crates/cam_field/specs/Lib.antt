@@ -1,0 +1,5 @@
+pub mod Cam
+pub mod CamLaws
+pub mod Ident
+pub mod PlainCam
+pub mod Spelling

@@ -1,0 +1,112 @@
+-- How far a frame has come, by its bytes and by its fields.
+use Rattle.std.proofs.Common.{◌≡◌, ℕ, zero, suc, ◌+◌, ◌*◌, ◌<◌, ◌≤◌, inl, inr, List, ◌++◌, length, take, drop, refl, sym, ap, ◌∙◌, subst, below_more, length-append, append-nil, arith}
+use Rattle.std.proofs.lemmas.Bool.{cases_order}
+use Rattle.std.proofs.lemmas.List.{length-drop}
+use Rattle.vrt_time.specs.Time.{TimeStamp}
+use Rattle.replay_form.specs.Numbers.{number_at}
+use Rattle.replay_form.specs.NumberLaws.{number_at-append, number_at-take}
+use Rattle.replay_form.specs.FrameFields.{AreFrameRight, IsFrameGood, IsFrameJudged, IsFramePart, IsFrameWrongAt, IsWholeFrame, frame_field, frame_end, frame_size}
+use Rattle.replay_form.specs.PrefixLaws.{frame_right-append, frame_wrong-append}
+use Rattle.replay_form.specs.Taking.{IsFrameBegun, IsFramePartTaken, IsFrameWhole}
+use Rattle.replay_form.proofs.Taking.{all_of_piece, two_parts}
+
+-- the first five fields end with the first 20 bytes, and the sixth with the frame
+ends_early : (bytes : List ℕ) (i : ℕ) → i < 5 → frame_end (frame_field i) bytes ≤ 20
+ends_early bytes zero h = omega arith
+ends_early bytes (suc zero) h = omega arith
+ends_early bytes (suc (suc zero)) h = omega arith
+ends_early bytes (suc (suc (suc zero))) h = omega arith
+ends_early bytes (suc (suc (suc (suc zero)))) h = omega arith
+ends_early bytes (suc (suc (suc (suc (suc i))))) h = absurd (omega arith)
+
+ends_within : (bytes : List ℕ) (i : ℕ) → frame_end (frame_field i) bytes ≤ frame_size bytes
+ends_within bytes zero = omega arith
+ends_within bytes (suc zero) = omega arith
+ends_within bytes (suc (suc zero)) = omega arith
+ends_within bytes (suc (suc (suc zero))) = omega arith
+ends_within bytes (suc (suc (suc (suc zero)))) = omega arith
+ends_within bytes (suc (suc (suc (suc (suc i))))) = omega arith
+
+-- what is open is short
+pub frame_short : (last : TimeStamp) (bytes : List ℕ) → IsFramePart last bytes → length bytes < frame_size bytes
+frame_short last bytes part = let e = ends_within bytes part.index in omega (arith, part.missing)
+
+-- where 20 bytes are there, five fields are right, and where they are not, one is missing
+pub frame_right : (last : TimeStamp) (bytes : List ℕ) (judged : ℕ) → IsFrameJudged last bytes judged → 20 ≤ length bytes → AreFrameRight last bytes 5
+frame_right last bytes judged j h i k =
+    elim (cases_order judged 5) [
+      | inl e ↦ j.right i (omega arith)
+      | inr (inl less) ↦ absurd (let e = ends_early bytes judged less in omega (arith, j.missing (omega arith)))
+      | inr (inr more) ↦ j.right i (omega arith)
+    ]
+
+pub frame_part : (last : TimeStamp) (bytes : List ℕ) (judged : ℕ) → IsFrameJudged last bytes judged → length bytes < 20 → IsFramePart last bytes
+frame_part last bytes judged j h =
+    elim (cases_order judged 6) [
+      | inl e ↦ absurd (let there = (j.right 4 (omega arith)).there in omega arith)
+      | inr (inl less) ↦ record { index = judged; among = less; before = j.right; missing = j.missing less }
+      | inr (inr more) ↦ absurd (omega (arith, j.within))
+    ]
+
+-- a datagram has 65,535 bytes at most
+pub frame_most : (last : TimeStamp) (bytes : List ℕ) → AreFrameRight last bytes 5 → frame_size bytes ≤ 65555
+frame_most last bytes right =
+    let most = (right 4 (omega arith)).right in
+    let same = number_at-take 16 4 20 bytes (omega arith) in
+    omega arith
+
+-- with five fields right, the datagram is open or whole
+pub datagram_open : (last : TimeStamp) (bytes : List ℕ) → AreFrameRight last bytes 5 → length bytes < frame_size bytes → IsFramePart last bytes
+datagram_open last bytes right h = record { index = 5; among = omega arith; before = right; missing = h }
+
+pub datagram_whole : (last : TimeStamp) (bytes : List ℕ) → AreFrameRight last bytes 5 → length bytes ≡ frame_size bytes → IsWholeFrame last bytes
+datagram_whole last bytes right h = record {
+  all = h;
+  right = below_more (λ k. IsFrameGood last (frame_field k) bytes) 5 right (record { there = omega arith; right = tt });
+}
+
+-- a frame goes on
+pub frame_resumes : (last : TimeStamp) (old more new : List ℕ) → new ≡ old ++ more → AreFrameRight last old 5 → AreFrameRight last new 5
+frame_resumes last old more new e right = subst (λ xs. AreFrameRight last xs 5) (sym e) (frame_right-append last old more 5 right)
+
+pub frame_grown : (last : TimeStamp) (old more new : List ℕ) → new ≡ old ++ more → IsFrameBegun last old → frame_size new ≡ frame_size old
+frame_grown last old more new e begun = ap frame_size e ∙ ap (λ n. 20 + n) (number_at-append 16 4 old more begun.there)
+
+pub frame_begins : (last : TimeStamp) (old piece new : List ℕ) (n judged : ℕ) → new ≡ old ++ take n piece → IsFramePart last old → (length old ≤ 20 → length new ≤ 20)
+    → (20 ≤ length old → n ≡ 0) → 20 ≤ length new → IsFrameJudged last new judged → IsFrameBegun last new
+frame_begins last old piece new n judged e part short none there fields = record {
+  there = there;
+  within = elim (cases_order (length old) 20) [
+    | inl same ↦ (let k = short (omega arith) in omega arith)
+    | inr (inl less) ↦ (let k = short (omega arith) in omega arith)
+    | inr (inr more) ↦ (
+      let zero_ : n ≡ 0 = none (omega arith) in
+      let stays : new ≡ old = e ∙ ap (λ k. old ++ take k piece) zero_ ∙ append-nil old in
+      let h : length old ≤ frame_size old = (let k = frame_short last old part in omega arith) in
+      subst (λ xs. length xs ≤ frame_size xs) (sym stays) h
+    )
+  ];
+  right = frame_right last new judged fields there;
+}
+
+-- what is wrong in a part of the piece is wrong in all of it
+pub frame_wrong_in_piece : (last : TimeStamp) (old piece new : List ℕ) (n offset : ℕ) → new ≡ old ++ take n piece → IsFrameWrongAt last new offset
+    → IsFrameWrongAt last (old ++ piece) offset
+frame_wrong_in_piece last old piece new n offset e wrong =
+    subst (λ xs. IsFrameWrongAt last xs offset) (all_of_piece old piece new n e) (frame_wrong-append last new (drop n piece) offset wrong)
+
+-- what the rest of a piece made of the datagram
+pub part_of_datagram : (last : TimeStamp) (old piece rest mid new : List ℕ) (n : ℕ) → mid ≡ old ++ take n piece → rest ≡ drop n piece → IsFramePartTaken last mid rest new
+    → IsFramePartTaken last old piece new
+part_of_datagram last old piece rest mid new n e f taken = record {
+  held = taken.held ∙ ap (λ xs. mid ++ xs) f ∙ all_of_piece old piece mid n e;
+  goes_on = taken.goes_on;
+}
+
+pub whole_of_datagram : (last : TimeStamp) (old piece rest mid new : List ℕ) (n count : ℕ) → n ≤ length piece → mid ≡ old ++ take n piece → rest ≡ drop n piece
+    → IsFrameWhole last mid rest new count → IsFrameWhole last old piece new (n + count)
+whole_of_datagram last old piece rest mid new n count h e f taken = record {
+  few = omega (arith, taken.few, ap length f, length-drop n piece);
+  held = two_parts old piece mid new n count e (taken.held ∙ ap (λ xs. mid ++ take count xs) f);
+  whole = taken.whole;
+}

@@ -1,0 +1,13 @@
+pub mod Numbers
+pub mod NumberLaws
+pub mod HeadFields
+pub mod Head
+pub mod HeadLaws
+pub mod FrameFields
+pub mod FrameLaws
+pub mod PrefixLaws
+pub mod Taking
+pub mod Record
+pub mod RecordLaws
+pub mod Reading
+pub mod ReadingLaws

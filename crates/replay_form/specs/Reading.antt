@@ -1,0 +1,113 @@
+-- What a reader of a record knows, and one call of it.
+use Rattle.std.specs.Prelude.{◌≡◌, ℕ, ◌+◌, ◌≤◌, ◌⊎◌, Bool, true, false, if◌then◌else◌, List, [], ◌∷◌, ◌++◌, length, take, drop, Option, Some, None}
+use Rattle.vrt_time.specs.Time.{TimeStamp}
+use Rattle.vrt_fields.specs.declared.route.Route.{Route}
+use Rattle.replay_form.specs.Numbers.{number_at}
+use Rattle.replay_form.specs.Head.{IsHead}
+use Rattle.replay_form.specs.HeadFields.{IsHeadPart, IsHeadOpen, IsHeadWrongAt}
+use Rattle.replay_form.specs.FrameFields.{Frame, frame_in, IsWholeFrame, IsFramePart, IsFrameWrongAt}
+use Rattle.replay_form.specs.Record.{first_stamp, last_stamp, IsOpen, IsRecordWrongAt}
+use Rattle.replay_form.specs.declared.record_head.RecordHead.{RecordHead}
+use Rattle.replay_form.specs.declared.event.Event.{Event}
+use Rattle.replay_form.specs.declared.event.Event.TheVariants as events
+use Rattle.replay_form.specs.declared.event.RecordFault.{RecordFault}
+
+-- Whether the header has come, and what it says; the stamp of the last frame, and the offset behind it; the bytes held, which
+-- are a whole frame or what has come of the next one; and the fault.
+pub record Reading : Type 0 where
+  pub started : Bool
+  pub head : RecordHead
+  pub last : TimeStamp
+  pub start : ℕ
+  pub whole : Bool
+  pub held : List ℕ
+  pub fault : Option RecordFault
+
+-- what has come of the header, or of the next frame
+abbrev pub begun : Reading → List ℕ
+begun reading = if reading.whole then [] else reading.held
+
+-- all bytes that the reader was given so far, and these frames, are behind what it knows
+pub record IsBeginning (reading : Reading) (taken : List ℕ) (frames : List Frame) : Type 0 where
+  pub started : reading.started ≡ false
+  pub none : frames ≡ []
+  pub bytes : taken ≡ begun reading
+  pub part : IsHeadPart (begun reading)
+  pub start : reading.start + length (begun reading) ≡ length taken
+
+pub record IsGoing (reading : Reading) (taken : List ℕ) (frames : List Frame) : Type 0 where
+  pub started : reading.started ≡ true
+  pub so_far : IsOpen reading.head frames (begun reading) taken
+  pub last : reading.last ≡ last_stamp first_stamp frames
+  pub start : reading.start + length (begun reading) ≡ length taken
+
+abbrev pub StandsWith : Option RecordFault → Reading → List ℕ → List Frame → Type 0
+StandsWith None reading taken frames = IsBeginning reading taken frames ⊎ IsGoing reading taken frames
+StandsWith (Some fault) reading taken frames = IsRecordWrongAt frames taken fault.offset
+
+abbrev pub StandsFor : Reading → List ℕ → List Frame → Type 0
+StandsFor reading taken frames = StandsWith reading.fault reading taken frames
+
+-- One call, by its event. All bytes of the piece were taken;
+pub record IsMore (old : Reading) (piece : List ℕ) (count : ℕ) (new : Reading) : Type 0 where
+  pub sound : old.fault ≡ None
+  pub all : count ≡ length piece
+  pub after : new ≡ record old { whole = false; held = begun old ++ piece }
+  pub head_part : old.started ≡ false → IsHeadPart (begun old ++ piece)
+  pub frame_part : old.started ≡ true → IsFramePart old.last (begun old ++ piece)
+
+-- or as many as the header has;
+pub record IsHeadRead (old : Reading) (piece : List ℕ) (count : ℕ) (new : Reading) : Type 0 where
+  pub sound : old.fault ≡ None
+  pub few : count ≤ length piece
+  pub first : old.started ≡ false
+  pub says : IsHead new.head (begun old ++ take count piece)
+  pub after : new ≡ record { started = true; head = new.head; last = first_stamp; start = length (begun old ++ take count piece); whole = false; held = []; fault = None }
+
+-- or as many as the frame has.
+pub record IsFrameRead (old : Reading) (piece : List ℕ) (count : ℕ) (new : Reading) : Type 0 where
+  pub sound : old.fault ≡ None
+  pub few : count ≤ length piece
+  pub later : old.started ≡ true
+  pub whole : IsWholeFrame old.last (begun old ++ take count piece)
+  pub after : new ≡ record old {
+    last = (frame_in (begun old ++ take count piece)).stamp;
+    start = old.start + length (begun old ++ take count piece);
+    whole = true;
+    held = begun old ++ take count piece
+  }
+
+abbrev pub IsStep : Reading → List ℕ → ℕ → Event → Reading → Type 0
+IsStep old piece count events.More new = IsMore old piece count new
+IsStep old piece count events.Head new = IsHeadRead old piece count new
+IsStep old piece count events.Frame new = IsFrameRead old piece count new
+
+-- A fault stays. A new one is at the first field that is wrong.
+pub record IsNewFault (old : Reading) (piece : List ℕ) (offset : ℕ) (new : Reading) : Type 0 where
+  pub whole : new.whole ≡ false
+  pub fault : new.fault ≡ Some (record { offset = offset })
+  pub in_head : old.started ≡ false → IsHeadWrongAt (begun old ++ piece) offset
+  pub in_frame : old.started ≡ true → (place : ℕ) × (IsFrameWrongAt old.last (begun old ++ piece) place × (offset ≡ old.start + place))
+
+abbrev pub IsFailed : Option RecordFault → Reading → List ℕ → ℕ → Reading → Type 0
+IsFailed (Some fault) old piece offset new = (offset ≡ fault.offset) × (new ≡ old)
+IsFailed None old piece offset new = IsNewFault old piece offset new
+
+-- what the reader keeps true, with the number of the header's fields that are judged, and the room for bytes and routes
+pub record Keeps (reading : Reading) (judged held_room routes_room : ℕ) (routes : List Route) : Type 0 where
+  pub held_fit : 65555 ≤ held_room
+  pub no_routes : routes ≡ []
+  pub routes_fit : reading.started ≡ false → 256 ≤ routes_room
+  pub not_whole : reading.started ≡ false → reading.whole ≡ false
+  pub head_open : reading.fault ≡ None → reading.started ≡ false → IsHeadOpen reading.held judged
+  pub frame_open : reading.fault ≡ None → reading.started ≡ true → IsFramePart reading.last (begun reading)
+
+-- the frame that is whole
+abbrev pub held_frame : Reading → Frame
+held_frame reading = record { stamp = reading.last; port = number_at 12 2 reading.held; datagram = drop 20 reading.held }
+
+-- the frames after a call
+abbrev pub frames_after : Event → List Frame → Reading → List Frame
+frames_after events.More frames new = frames
+frames_after events.Head frames new = frames
+frames_after events.Frame frames new = frames ++ held_frame new ∷ []

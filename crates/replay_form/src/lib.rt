@@ -1,0 +1,24 @@
+//! The record of received datagrams: a header and frames, read in any pieces and written.
+#![tactic(auto)]
+
+mod event;
+mod frame_field;
+mod head_field;
+mod head_rules;
+mod judge_head;
+mod numbers;
+mod read_head;
+mod reader;
+mod record_head;
+mod route_list;
+mod take;
+
+pub use crate::event::{Event, RecordFault};
+pub use crate::reader::RecordReader;
+pub use crate::record_head::RecordHead;
+pub use crate::route_list::RouteList;
+pub use cam_field::Ident;
+pub use sample_binder::Limits;
+pub use vrt_fields::{Limit, Route};
+pub use vrt_header::Profile;
+pub use vrt_time::Stamp;
