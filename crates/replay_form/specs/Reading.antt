@@ -1,5 +1,5 @@
 -- What a reader of a record knows, and one call of it.
-use Rattle.std.specs.Prelude.{◌≡◌, ℕ, ◌+◌, ◌≤◌, ◌⊎◌, Bool, true, false, if◌then◌else◌, List, [], ◌∷◌, ◌++◌, length, take, drop, Option, Some, None}
+use Rattle.std.specs.Prelude.{◌≡◌, ℕ, ◌+◌, ◌<◌, ◌≤◌, ◌^◌, ◌⊎◌, IsSome, Bool, true, false, if◌then◌else◌, List, [], ◌∷◌, ◌++◌, length, take, drop, Option, Some, None}
 use Rattle.vrt_time.specs.Time.{TimeStamp}
 use Rattle.vrt_fields.specs.declared.route.Route.{Route}
 use Rattle.replay_form.specs.Numbers.{number_at}
@@ -47,6 +47,14 @@ StandsWith (Some fault) reading taken frames = IsRecordWrongAt frames taken faul
 
 abbrev pub StandsFor : Reading → List ℕ → List Frame → Type 0
 StandsFor reading taken frames = StandsWith reading.fault reading taken frames
+
+-- no bytes were given
+pub record IsFresh (reading : Reading) : Type 0 where
+  pub started : reading.started ≡ false
+  pub whole : reading.whole ≡ false
+  pub start : reading.start ≡ 0
+  pub held : reading.held ≡ []
+  pub fault : reading.fault ≡ None
 
 -- One call, by its event. All bytes of the piece were taken;
 pub record IsMore (old : Reading) (piece : List ℕ) (count : ℕ) (new : Reading) : Type 0 where
@@ -101,6 +109,19 @@ pub record Keeps (reading : Reading) (judged held_room routes_room : ℕ) (route
   pub not_whole : reading.started ≡ false → reading.whole ≡ false
   pub head_open : reading.fault ≡ None → reading.started ≡ false → IsHeadOpen reading.held judged
   pub frame_open : reading.fault ≡ None → reading.started ≡ true → IsFramePart reading.last (begun reading)
+  pub frame_there : reading.whole ≡ true → 20 ≤ length reading.held
+  pub idle : IsSome reading.fault → reading.whole ≡ false
+  pub small : reading.fault ≡ None → reading.start + length (begun reading) < 2 ^ 63
+
+-- The end of the bytes: the fault that stands, or the number of bytes where they end inside the header or a frame.
+abbrev pub IsUnfinished : Option RecordFault → Reading → ℕ → Type 0
+IsUnfinished (Some fault) reading offset = offset ≡ fault.offset
+IsUnfinished None reading offset = (offset ≡ reading.start + length (begun reading)) × ((reading.started ≡ false) ⊎ (0 < length (begun reading)))
+
+pub record IsFinished (reading : Reading) : Type 0 where
+  pub sound : reading.fault ≡ None
+  pub started : reading.started ≡ true
+  pub nothing : begun reading ≡ []
 
 -- the frame that is whole
 abbrev pub held_frame : Reading → Frame

@@ -3,9 +3,9 @@ use Rattle.std.proofs.Common.{◌≡◌, ℕ, ◌+◌, ◌<◌, ◌≤◌, ◌�
 use Rattle.vrt_time.specs.Time.{TimeStamp}
 use Rattle.replay_form.specs.HeadFields.{IsHeadWrongAt, IsHeadPart}
 use Rattle.replay_form.specs.FrameFields.{Frame, IsFrame, IsFramePart, IsFrameWrongAt, IsWholeFrame, frame_in}
-use Rattle.replay_form.specs.Record.{first_stamp, last_stamp, IsCut, IsOpen, IsRecordWrongAt}
+use Rattle.replay_form.specs.Record.{first_stamp, last_stamp, IsCut, IsOpen, IsRecord, IsRecordWrongAt, EndsInside}
 use Rattle.replay_form.specs.RecordLaws.{cut-append, cut-frame, cut-head, nothing_open, record_wrong-append, last_stamp-snoc}
-use Rattle.replay_form.specs.Reading.{Reading, begun, IsBeginning, IsGoing, StandsWith, StandsFor, IsMore, IsHeadRead, IsFrameRead, IsStep, IsNewFault, IsFailed, held_frame, frames_after}
+use Rattle.replay_form.specs.Reading.{Reading, begun, IsBeginning, IsGoing, StandsWith, StandsFor, IsMore, IsHeadRead, IsFrameRead, IsStep, IsNewFault, IsFailed, IsFresh, IsFinished, IsUnfinished, held_frame, frames_after}
 use Rattle.replay_form.specs.declared.event.Event.{Event}
 use Rattle.replay_form.specs.declared.event.Event.TheVariants as events
 use Rattle.replay_form.specs.declared.event.RecordFault.{RecordFault}
@@ -130,3 +130,37 @@ failed None old piece offset new taken frames was fails stands =
 pub failed_stands : (old : Reading) (piece : List ℕ) (offset : ℕ) (new : Reading) (taken : List ℕ) (frames : List Frame) → IsFailed old.fault old piece offset new
     → StandsFor old taken frames → StandsFor new (taken ++ piece) frames
 failed_stands old piece offset new taken frames fails stands = failed old.fault old piece offset new taken frames refl fails stands
+
+-- a fresh reader stands for no bytes
+pub fresh_stands : (reading : Reading) → IsFresh reading → StandsFor reading [] []
+fresh_stands reading fresh =
+    let none : begun reading ≡ [] = rw (fresh.whole, fresh.held) refl in
+    stands_sound reading [] [] fresh.fault (inl (record {
+      started = fresh.started;
+      none = refl;
+      bytes = sym none;
+      part = subst IsHeadPart (sym none) (0, record { among = omega arith; before = λ i h. absurd (omega arith); missing = omega arith });
+      start = omega (arith, ap length none, fresh.start);
+    }))
+
+-- at the end the bytes are a record,
+pub finished_record : (reading : Reading) (taken : List ℕ) (frames : List Frame) → IsFinished reading → StandsFor reading taken frames → IsRecord reading.head frames taken
+finished_record reading taken frames finished stands =
+    elim (sound_stands reading taken frames finished.sound stands) [
+      | inl b ↦ not_both reading.started finished.started b.started
+      | inr g ↦ subst (λ rest. IsCut reading.head frames rest taken) finished.nothing g.so_far.cut
+    ]
+
+-- or wrong, or end inside the header or a frame
+unfinished : (fault : Option RecordFault) (reading : Reading) (taken : List ℕ) (frames : List Frame) (offset : ℕ) → IsUnfinished fault reading offset
+    → StandsWith fault reading taken frames → IsRecordWrongAt frames taken offset ⊎ (EndsInside taken × (offset ≡ length taken))
+unfinished (Some fault) reading taken frames offset ends stands = inl (subst (IsRecordWrongAt frames taken) (sym ends) stands)
+unfinished None reading taken frames offset ends (inl b) =
+    inr (inl (subst IsHeadPart (sym b.bytes) b.part), omega (arith, ends.0, b.start))
+unfinished None reading taken frames offset ends (inr g) =
+    let some : 0 < length (begun reading) = elim ends.1 [ inl unstarted ↦ not_both reading.started g.started unstarted | inr h ↦ h ] in
+    inr (inr (reading.head, (frames, (begun reading, (some, g.so_far)))), omega (arith, ends.0, g.start))
+
+pub unfinished_record : (reading : Reading) (taken : List ℕ) (frames : List Frame) (offset : ℕ) → IsUnfinished reading.fault reading offset
+    → StandsFor reading taken frames → IsRecordWrongAt frames taken offset ⊎ (EndsInside taken × (offset ≡ length taken))
+unfinished_record reading taken frames offset ends stands = unfinished reading.fault reading taken frames offset ends stands

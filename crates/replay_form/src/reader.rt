@@ -1,12 +1,13 @@
-ghost use Rattle.std.specs.Prelude.{◌≡◌, ◌+◌, ◌*◌, ◌<◌, ◌≤◌, ◌^◌, ◌++◌, ◌↔◌, [], None, false, true, length, vec_capacity, IfOk, IfErr, IsOk};
-ghost use Rattle.replay_form.specs.FrameFields.{IsWholeFrame, frame_in};
+ghost use Rattle.std.specs.Prelude.{◌≡◌, ◌+◌, ◌*◌, ◌<◌, ◌≤◌, ◌^◌, ◌++◌, ◌↔◌, ◌⊎◌, ℕ, List, [], None, false, true, length, take, MatchOption, IfOk, OnOk, IfErr, OnErr};
+ghost use Rattle.replay_form.specs.FrameFields.{Frame, IsWholeFrame};
 ghost use Rattle.replay_form.specs.Numbers.{number_at};
-ghost use Rattle.replay_form.specs.Reading.{IsStep, IsFailed, IsNewFault, begun};
-ghost use Rattle.replay_form.specs.Record.{first_stamp};
+ghost use Rattle.replay_form.specs.Reading.{StandsFor, IsFresh, IsStep, IsFailed, IsNewFault, IsFinished, IsUnfinished, begun, frames_after, held_frame};
+ghost use Rattle.replay_form.specs.Record.{IsRecord, IsRecordWrongAt, EndsInside, first_stamp};
 ghost use Rattle.vrt_time.specs.Time.{TimeStamp, stamp_of};
 
 use crate::event::{Event, RecordFault};
-use crate::numbers::{u32_at, u64_at};
+use crate::frame_field::FRAME_HEAD;
+use crate::numbers::{u16_at, u32_at, u64_at};
 use crate::read_head::read_head;
 use crate::record_head::RecordHead;
 use crate::route_list::RouteList;
@@ -56,7 +57,8 @@ impl Model for RecordReader {
 impl RecordReader {
     /// A reader that was given no bytes.
     pub fn open(alloc: Global) -> Result<RecordReader, NoMemory>
-        ensures fresh { IfOk result (λ reader. reader.started ≡ false) }
+        ensures fresh { IfOk result (λ reader. IsFresh reader) }
+        ensures stands { IfOk result (λ reader. StandsFor reader [] []) }
     {
         let Ok(held) = Vec::with_capacity(alloc, MOST_HELD) else {
             return Err(NoMemory);
@@ -84,8 +86,80 @@ impl RecordReader {
     /// bytes are there, and then at every later call.
     pub fn feed(&mut self, piece: &[u8]) -> Result<(usize, Event), RecordFault>
         requires { self.old.fault ≡ None → self.old.start + length (begun self.old) + length piece.now < 2 ^ 63 }
+
+        // Over all bytes that were ever given, however they were cut.
+        ensures stands { IfOk result (λ step. (taken : List ℕ) (frames : List Frame) → StandsFor self.old taken frames
+            → StandsFor self.new (taken ++ take step.0 piece.now) (frames_after step.1 frames self.new)) }
+        ensures fails { OnErr result ((taken : List ℕ) (frames : List Frame) → StandsFor self.old taken frames
+            → StandsFor self.new (taken ++ piece.now) frames) }
+
+        // The same, by what the reader knows.
         ensures step { IfOk result (λ step. IsStep self.old piece.now step.0 step.1 self.new) }
         ensures wrong { IfErr result (λ fault. IsFailed self.old.fault self.old piece.now fault.offset self.new) }
+        ensures idle { OnErr result (self.new.whole ≡ false) }
+    {
+        self.advance(piece)
+    }
+
+    /// The header, once it is whole.
+    pub fn head(&self) -> Option<&RecordHead>
+        ensures { MatchOption result (self.now.started ≡ false) (λ head. (self.now.started ≡ true) × (head.now ≡ self.now.head)) }
+    {
+        if self.started { Some(&self.head) } else { None }
+    }
+
+    /// The frame that the last call of `feed` made whole, if it did: when the datagram came, on which
+    /// port, and its bytes.
+    pub fn frame(&self) -> Option<(Stamp, u16, &[u8])>
+        ensures { MatchOption result (self.now.whole ≡ false) (λ frame. (self.now.whole ≡ true)
+            × (held_frame self.now ≡ record { stamp = frame.0; port = frame.1; datagram = frame.2.now })) }
+    {
+        if !self.whole {
+            return None;
+        }
+        Some((self.last, u16_at(&self.held, 12), &self.held[FRAME_HEAD..]))
+    }
+
+    /// Whether the bytes given are a record.
+    ///
+    /// `Err` comes exactly where a fault stands, which is told again, or where they end inside the
+    /// header or a frame, with their number.
+    pub fn finish(&self) -> Result<(), RecordFault>
+        // Over all bytes that were ever given, however they were cut.
+        ensures record_read { OnOk result ((taken : List ℕ) (frames : List Frame) → StandsFor self.now taken frames
+            → IsRecord self.now.head frames taken) }
+        ensures no_record { IfErr result (λ fault. (taken : List ℕ) (frames : List Frame) → StandsFor self.now taken frames
+            → IsRecordWrongAt frames taken fault.offset ⊎ (EndsInside taken × (fault.offset ≡ length taken))) }
+
+        // The same, by what the reader knows.
+        ensures finished { OnOk result (IsFinished self.now) }
+        ensures unfinished { IfErr result (λ fault. IsUnfinished self.now.fault self.now fault.offset) }
+    {
+        self.ending()
+    }
+
+    fn ending(&self) -> Result<(), RecordFault>
+        ensures finished { OnOk result (IsFinished self.now) }
+        ensures unfinished { IfErr result (λ fault. IsUnfinished self.now.fault self.now fault.offset) }
+    {
+        if let Some(fault) = self.fault {
+            return Err(fault);
+        }
+        let begun = if self.whole { 0 } else { self.held.len() };
+        if self.started && begun == 0 {
+            return Ok(());
+        }
+        Err(RecordFault {
+            offset: self.start + begun as u64,
+        })
+    }
+
+    // One call of `feed`.
+    fn advance(&mut self, piece: &[u8]) -> Result<(usize, Event), RecordFault>
+        requires { self.old.fault ≡ None → self.old.start + length (begun self.old) + length piece.now < 2 ^ 63 }
+        ensures step { IfOk result (λ step. IsStep self.old piece.now step.0 step.1 self.new) }
+        ensures wrong { IfErr result (λ fault. IsFailed self.old.fault self.old piece.now fault.offset self.new) }
+        ensures idle { OnErr result (self.new.whole ≡ false) }
     {
         if let Some(fault) = self.fault {
             return Err(fault);
