@@ -1,3 +1,7 @@
 pub mod Texts
-pub mod Walk
+pub mod Feeding
+pub mod Outcomes
 pub mod Complete
+pub mod ClapLine
+pub mod ClapCommand
+pub mod Values

@@ -7,7 +7,8 @@ use Rattle.std.proofs.Math.Seq.{take-append-add}
 use Rattle.std.proofs.lemmas.List.{take-append-le}
 use Rattle.std.proofs.lemmas.List.Sums.{sum_by-append}
 use Rattle.difi_io.specs.Faults.{HasCause, Rose-later}
-use Rattle.difi_cmd.specs.declared.frames.Head.{Head}
+use Rattle.replay_form.specs.FrameFields.{Frame}
+use Rattle.replay_form.specs.declared.record_head.RecordHead.{RecordHead}
 use Rattle.difi_cmd.specs.declared.lines.Listing.{Listing}
 use Rattle.difi_cmd.specs.declared.report.Report.{Report}
 use Rattle.difi_cmd.specs.Lines.{Account, entry, entries, counts, summary, is_accepted}
@@ -43,12 +44,12 @@ entries-append number (b ∷ told) a =
     ∙ ap (λ n. entry number b ++ (entries (suc number) told ++ entry n a)) (omega arith)
     ∙ sym (append_assoc (entry number b) (entries (suc number) told) (entry (number + suc (length told)) a))
 
-pub AreAccounts-append : (listing : Listing) (head : Head) (ds : List (List ℕ)) (told : List Account) (d : List ℕ) (a : Account) → AreAccounts listing head ds told
-    → IsAccount listing head d a → AreAccounts listing head (ds ++ d ∷ []) (told ++ a ∷ [])
-AreAccounts-append listing head [] [] d a all one = (one, tt)
-AreAccounts-append listing head [] (b ∷ told) d a all one = absurd all
-AreAccounts-append listing head (c ∷ ds) [] d a all one = absurd all
-AreAccounts-append listing head (c ∷ ds) (b ∷ told) d a all one = (all.0, AreAccounts-append listing head ds told d a all.1 one)
+pub AreAccounts-append : (listing : Listing) (head : RecordHead) (fs : List Frame) (told : List Account) (f : Frame) (a : Account) → AreAccounts listing head fs told
+    → IsAccount listing head f.datagram a → AreAccounts listing head (fs ++ f ∷ []) (told ++ a ∷ [])
+AreAccounts-append listing head [] [] f a all one = (one, tt)
+AreAccounts-append listing head [] (b ∷ told) f a all one = absurd all
+AreAccounts-append listing head (g ∷ fs) [] f a all one = absurd all
+AreAccounts-append listing head (g ∷ fs) (b ∷ told) f a all one = (all.0, AreAccounts-append listing head fs told f a all.1 one)
 
 -- ---- a text on its way
 
@@ -96,11 +97,11 @@ sent_cut false start held before now waiting text e s = cc
 -- ---- a report
 
 -- one more frame was judged
-pub reporting_more : (start held : Option (List ℕ)) (before now : ℕ) (head : Head) (old new : Report) (ds : List (List ℕ)) (told : List Account) (d : List ℕ) (a : Account)
-    → IsReporting start held before now head old ds told → IsAccount old.listing head d a → IsNoted old new a
-    → IsReporting start held before now head new (ds ++ d ∷ []) (told ++ a ∷ [])
-reporting_more start held before now head old new ds told d a r one noted = record {
-  judged = subst (λ (l : Listing). AreAccounts l head (ds ++ d ∷ []) (told ++ a ∷ [])) (sym noted.listing) (AreAccounts-append old.listing head ds told d a r.judged one);
+pub reporting_more : (start held : Option (List ℕ)) (before now : ℕ) (head : RecordHead) (old new : Report) (fs : List Frame) (told : List Account) (f : Frame) (a : Account)
+    → IsReporting start held before now head old fs told → IsAccount old.listing head f.datagram a → IsNoted old new a
+    → IsReporting start held before now head new (fs ++ f ∷ []) (told ++ a ∷ [])
+reporting_more start held before now head old new fs told f a r one noted = record {
+  judged = subst (λ (l : Listing). AreAccounts l head (fs ++ f ∷ []) (told ++ a ∷ [])) (sym noted.listing) (AreAccounts-append old.listing head fs told f a r.judged one);
   frames = omega (arith, noted.frames, r.frames, length-append told (a ∷ []));
   accepted = noted.accepted ∙ ap (λ n. n + count_by is_accepted (a ∷ [])) r.accepted ∙ sym (count_by-append is_accepted told (a ∷ []));
   sent =
@@ -114,7 +115,7 @@ reporting_more start held before now head old new ds told d a r one noted = reco
 }
 
 -- what waited was sent
-pub reporting_sent : (start held held' : Option (List ℕ)) (before now now' : ℕ) (head : Head) (old new : Report) (ds : List (List ℕ)) (told : List Account)
+pub reporting_sent : (start held held' : Option (List ℕ)) (before now now' : ℕ) (head : RecordHead) (old new : Report) (ds : List Frame) (told : List Account)
     → IsReporting start held before now head old ds told → new.listing ≡ old.listing → new.frames ≡ old.frames → new.accepted ≡ old.accepted
     → IsSent new.failed start held' before now' new.text (entries 1 told) → IsReporting start held' before now' head new ds told
 reporting_sent start held held' before now now' head old new ds told r listing frames accepted sent = record {
@@ -125,7 +126,7 @@ reporting_sent start held held' before now now' head old new ds told r listing f
 }
 
 -- the last line was put behind the others
-pub reporting_last : (start held : Option (List ℕ)) (before now : ℕ) (head : Head) (old : Report) (text : List ℕ) (ds : List (List ℕ)) (told : List Account)
+pub reporting_last : (start held : Option (List ℕ)) (before now : ℕ) (head : RecordHead) (old : Report) (text : List ℕ) (ds : List Frame) (told : List Account)
     → IsReporting start held before now head old ds told → text ≡ old.text ++ counts old.frames old.accepted
     → IsSent old.failed start held before now text (entries 1 told ++ summary told)
 reporting_last start held before now head old text ds told r is =

@@ -1,10 +1,10 @@
 pub mod Status
-pub mod Record
-pub mod RecordLaws
 pub mod Lines
 pub mod Details
 pub mod Text
 pub mod TextLaws
 pub mod Progress
-pub mod Words
+pub mod LineOfWords
+pub mod LineLaws
 pub mod Outcome
+pub mod Steps

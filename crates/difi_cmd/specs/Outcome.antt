@@ -1,45 +1,111 @@
--- What a call did with its source and its sink.
-use Rattle.std.specs.Prelude.{◌≡◌, ℕ, ◌<◌, ◌≤◌, ◌^◌, List, length, take, Option}
+-- What a call did with its source and its sink, and the status that bytes give.
+use Rattle.std.specs.Prelude.{◌≡◌, ℕ, ◌<◌, ◌≤◌, ◌⊎◌, List, length, take, Option}
 use Rattle.std.specs.Io.KnownBytes.{Consumes, IsAtEnd, Appends}
+use Rattle.difi_io.specs.Faults.{Rose}
+use Rattle.replay_form.specs.HeadFields.{IsHeadPart}
+use Rattle.replay_form.specs.FrameFields.{Frame}
+use Rattle.replay_form.specs.Record.{IsRecord, IsRecordWrongAt, IsOpen, EndsInside}
+use Rattle.replay_form.specs.declared.record_head.RecordHead.{RecordHead}
 use Rattle.difi_cmd.specs.declared.status.Status.{Status}
 use Rattle.difi_cmd.specs.declared.status.Status.TheVariants.{Done, Usage, ReadFault, WriteFault, Memory, BadRecord, TooLong}
-use Rattle.difi_cmd.specs.declared.lines.Listing.{Listing}
-use Rattle.difi_cmd.specs.Record.{IsReadable}
-use Rattle.difi_cmd.specs.Text.{IsOutput}
+use Rattle.difi_cmd.specs.declared.words.Line.{Line}
+use Rattle.difi_cmd.specs.Text.{IsPart, IsOutput}
 
--- the most bytes of a record that are read
-abbrev pub most : ℕ
-most = 2 ^ 40
+-- no field of the bytes is wrong, as far as they go
+abbrev pub HasNoFault : List ℕ → Type 0
+HasNoFault bytes = IsHeadPart bytes ⊎ ((head : RecordHead) × ((frames : List Frame) × ((rest : List ℕ) × IsOpen head frames rest bytes)))
 
--- these bytes were taken, which are not too many, and the source told its end
-pub record TakesAll (old new : Option (List ℕ)) (bytes : List ℕ) : Type 0 where
-  pub taken : Consumes old new bytes
-  pub at_end : IsAtEnd new
+-- a field is wrong, and the first such begins at this offset
+abbrev pub HasFaultAt : List ℕ → ℕ → Type 0
+HasFaultAt bytes offset = (frames : List Frame) × IsRecordWrongAt frames bytes offset
+
+-- Of the bytes the first `most` are judged. A field of these is wrong; or the bytes end inside the header or a frame
+abbrev pub IsBad : ℕ → List ℕ → ℕ → Type 0
+IsBad most bytes offset =
+    HasFaultAt (take most bytes) offset ⊎ ((length bytes ≤ most) × (EndsInside bytes × (offset ≡ length bytes)))
+
+-- or there are more
+pub record IsLonger (most : ℕ) (bytes : List ℕ) : Type 0 where
+  pub more : most < length bytes
+  pub sound : HasNoFault (take most bytes)
+
+-- or they are a record
+pub record IsWhole (most : ℕ) (bytes : List ℕ) : Type 0 where
   pub within : length bytes ≤ most
-
--- too many bytes were taken
-abbrev pub TakesTooMany : Option (List ℕ) → Option (List ℕ) → Type 0
-TakesTooMany old new = (bytes : List ℕ) × (Consumes old new bytes × (most < length bytes))
-
--- all bytes were taken, and they are no record
-abbrev pub TakesUnreadable : Option (List ℕ) → Option (List ℕ) → Type 0
-TakesUnreadable old new = (bytes : List ℕ) × (TakesAll old new bytes × ¬ IsReadable bytes)
-
--- all bytes were taken, they are a record, and its text was written
-abbrev pub WritesAll : Listing → Option (List ℕ) → Option (List ℕ) → Option (List ℕ) → Option (List ℕ) → Type 0
-WritesAll listing left left' held held' = (bytes text : List ℕ) × (TakesAll left left' bytes × (IsOutput listing bytes text × Appends held held' text))
-
--- the same, and so many bytes of its text were written
-abbrev pub WritesFront : Listing → Option (List ℕ) → Option (List ℕ) → Option (List ℕ) → Option (List ℕ) → Type 0
-WritesFront listing left left' held held' =
-    (bytes text : List ℕ) × (TakesAll left left' bytes × (IsOutput listing bytes text × ((n : ℕ) × Appends held held' (take n text))))
+  pub whole : (head : RecordHead) × ((frames : List Frame) × IsRecord head frames bytes)
 
 -- the status that the bytes give where no read or write fails
-abbrev pub IsVerdict : List ℕ → Status → Type 0
-IsVerdict bytes Done = (length bytes ≤ most) × IsReadable bytes
-IsVerdict bytes (BadRecord offset) = (length bytes ≤ most) × ((offset ≡ 0) × ¬ IsReadable bytes)
-IsVerdict bytes TooLong = most < length bytes
-IsVerdict bytes Usage = ⊥
-IsVerdict bytes ReadFault = ⊥
-IsVerdict bytes WriteFault = ⊥
-IsVerdict bytes Memory = ⊥
+abbrev pub IsVerdict : ℕ → List ℕ → Status → Type 0
+IsVerdict most bytes Done = IsWhole most bytes
+IsVerdict most bytes (BadRecord offset) = IsBad most bytes offset
+IsVerdict most bytes TooLong = IsLonger most bytes
+IsVerdict most bytes Usage = ⊥
+IsVerdict most bytes ReadFault = ⊥
+IsVerdict most bytes WriteFault = ⊥
+IsVerdict most bytes Memory = ⊥
+
+-- A line was run between what the source had left and has left, and what the sink held and holds. A read failed behind bytes in
+-- which nothing is wrong, and the text of their frames was written
+pub record Reads (line : Line) (left left' held held' : Option (List ℕ)) : Type 0 where
+  pub bytes : List ℕ
+  pub taken : Consumes left left' bytes
+  pub within : length bytes ≤ line.max_bytes
+  pub sound : HasNoFault bytes
+  pub text : List ℕ
+  pub part : IsPart line.listing bytes text
+  pub written : Appends held held' text
+
+-- or the bytes are too many; the text is that of the first ones
+pub record TakesTooMany (line : Line) (left left' held held' : Option (List ℕ)) : Type 0 where
+  pub bytes : List ℕ
+  pub taken : Consumes left left' bytes
+  pub longer : IsLonger line.max_bytes bytes
+  pub text : List ℕ
+  pub part : IsPart line.listing (take line.max_bytes bytes) text
+  pub written : Appends held held' text
+
+-- or a field is wrong, or the source told its end inside the header or a frame
+abbrev pub IsBadSoFar : ℕ → List ℕ → ℕ → Option (List ℕ) → Type 0
+IsBadSoFar most bytes offset left' =
+    HasFaultAt (take most bytes) offset ⊎ ((length bytes ≤ most) × (IsAtEnd left' × (EndsInside bytes × (offset ≡ length bytes))))
+
+pub record TakesBad (line : Line) (offset : ℕ) (left left' held held' : Option (List ℕ)) : Type 0 where
+  pub bytes : List ℕ
+  pub taken : Consumes left left' bytes
+  pub bad : IsBadSoFar line.max_bytes bytes offset left'
+  pub text : List ℕ
+  pub part : IsPart line.listing (take line.max_bytes bytes) text
+  pub written : Appends held held' text
+
+-- or the source told its end, the bytes are a record, and its whole text was written
+pub record WritesAll (line : Line) (left left' held held' : Option (List ℕ)) : Type 0 where
+  pub bytes : List ℕ
+  pub taken : Consumes left left' bytes
+  pub at_end : IsAtEnd left'
+  pub within : length bytes ≤ line.max_bytes
+  pub text : List ℕ
+  pub output : IsOutput line.listing bytes text
+  pub written : Appends held held' text
+
+-- or a write failed, behind a front of the text of the bytes taken, or of the whole text where the source told its end
+abbrev pub IsTextSoFar : Line → List ℕ → List ℕ → Option (List ℕ) → Type 0
+IsTextSoFar line bytes text left' =
+    IsPart line.listing (take line.max_bytes bytes) text ⊎ ((length bytes ≤ line.max_bytes) × (IsAtEnd left' × IsOutput line.listing bytes text))
+
+pub record WritesFront (line : Line) (left left' held held' : Option (List ℕ)) : Type 0 where
+  pub bytes : List ℕ
+  pub taken : Consumes left left' bytes
+  pub text : List ℕ
+  pub so_far : IsTextSoFar line bytes text left'
+  pub number : ℕ
+  pub written : Appends held held' (take number text)
+
+-- one line a status
+abbrev pub IsOutcome : Status → Line → ℕ → ℕ → ℕ → ℕ → Option (List ℕ) → Option (List ℕ) → Option (List ℕ) → Option (List ℕ) → Type 0
+IsOutcome ReadFault line read read' write write' left left' held held' = Rose read read' × Reads line left left' held held'
+IsOutcome TooLong line read read' write write' left left' held held' = TakesTooMany line left left' held held'
+IsOutcome (BadRecord offset) line read read' write write' left left' held held' = TakesBad line offset left left' held held'
+IsOutcome WriteFault line read read' write write' left left' held held' = Rose write write' × WritesFront line left left' held held'
+IsOutcome Done line read read' write write' left left' held held' = WritesAll line left left' held held'
+IsOutcome Usage line read read' write write' left left' held held' = ⊥
+IsOutcome Memory line read read' write write' left left' held held' = ⊥

@@ -2,7 +2,8 @@
 use Rattle.std.specs.Prelude.{◌≡◌, ℕ, ◌+◌, ◌≤◌, Bool, true, false, List, [], ◌∷◌, ◌++◌, length, take, count_by, Option, Result, Ok, Err}
 use Rattle.std.specs.Io.KnownBytes.{Appends}
 use Rattle.difi_io.specs.Faults.{Rose}
-use Rattle.difi_cmd.specs.declared.frames.Head.{Head}
+use Rattle.replay_form.specs.FrameFields.{Frame}
+use Rattle.replay_form.specs.declared.record_head.RecordHead.{RecordHead}
 use Rattle.difi_cmd.specs.declared.report.Report.{Report}
 use Rattle.difi_cmd.specs.Lines.{Account, entry, entries, is_accepted}
 use Rattle.difi_cmd.specs.Text.{AreAccounts}
@@ -31,9 +32,9 @@ pub record IsNoted (old new : Report) (account : Account) : Type 0 where
   pub text : new.text ≡ old.text ++ entry (old.frames + 1) account
   pub failed : new.failed ≡ old.failed
 
--- these datagrams were judged so, and counted, and their entries are on their way
-pub record IsReporting (start held : Option (List ℕ)) (before now : ℕ) (head : Head) (report : Report) (datagrams : List (List ℕ)) (accounts : List Account) : Type 0 where
-  pub judged : AreAccounts report.listing head datagrams accounts
+-- these frames were judged so, and counted, and their entries are on their way
+pub record IsReporting (start held : Option (List ℕ)) (before now : ℕ) (head : RecordHead) (report : Report) (shown : List Frame) (accounts : List Account) : Type 0 where
+  pub judged : AreAccounts report.listing head shown accounts
   pub frames : report.frames ≡ length accounts
   pub accepted : report.accepted ≡ count_by is_accepted accounts
   pub sent : IsSent report.failed start held before now report.text (entries 1 accounts)

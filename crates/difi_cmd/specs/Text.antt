@@ -1,12 +1,14 @@
 -- What check and show write of a record: a line for each frame, with show the packet's lines under it, and a last one.
-use Rattle.std.specs.Prelude.{◌≡◌, ℕ, ◌*◌, ◌<◌, ◌≤◌, ◌⊎◌, List, [], ◌∷◌, ◌++◌, length}
+use Rattle.std.specs.Prelude.{◌≡◌, ℕ, ◌*◌, ◌<◌, ◌≤◌, ◌⊎◌, List, [], ◌∷◌, ◌++◌, length, map}
 use Rattle.vrt_words.specs.Begins.{IsDatagram, IsRefused}
 use Rattle.difi_packet.specs.Packet.{PacketValue, DataValue, ContextValue, VersionValue, IsPacket}
-use Rattle.difi_cmd.specs.declared.frames.Head.{Head}
+use Rattle.replay_form.specs.HeadFields.{IsHeadPart, IsHeadWrongAt}
+use Rattle.replay_form.specs.FrameFields.{Frame, IsFramePart, IsFrameWrongAt}
+use Rattle.replay_form.specs.Record.{first_stamp, last_stamp, IsCut, IsRecord}
+use Rattle.replay_form.specs.declared.record_head.RecordHead.{RecordHead}
 use Rattle.difi_cmd.specs.declared.lines.Judgement.{Judgement}
 use Rattle.difi_cmd.specs.declared.lines.Judgement.TheVariants.{Accepted, Refused, TooLarge}
 use Rattle.difi_cmd.specs.declared.lines.StreamKind.TheVariants.{Data, Context, Version}
-use Rattle.difi_cmd.specs.Record.{AreFrames, IsRecord}
 use Rattle.difi_cmd.specs.declared.lines.Listing.{Listing}
 use Rattle.difi_cmd.specs.Lines.{Account, entries, summary}
 use Rattle.difi_cmd.specs.Details.{under}
@@ -18,11 +20,11 @@ accepted (ContextValue rec) = Accepted Context rec.prologue.stream
 accepted (VersionValue rec) = Accepted Version rec.prologue.stream
 
 -- the datagram is this packet, and has no more words than the header allows
-abbrev pub IsAccepted : Head → List ℕ → PacketValue → Type 0
+abbrev pub IsAccepted : RecordHead → List ℕ → PacketValue → Type 0
 IsAccepted head datagram value = (length datagram ≤ 4 * head.max_words) × IsDatagram (IsPacket head.profile) value datagram
 
 -- it is no packet, or it has more words
-abbrev pub IsTurnedAway : Head → List ℕ → Judgement → Type 0
+abbrev pub IsTurnedAway : RecordHead → List ℕ → Judgement → Type 0
 IsTurnedAway head datagram (Accepted kind stream) = ⊥
 IsTurnedAway head datagram (Refused word) =
     (length datagram ≤ 4 * head.max_words) × IsRefused (IsPacket head.profile) datagram word
@@ -36,29 +38,47 @@ abbrev pub turned_away : Judgement → Account
 turned_away judgement = record { judgement = judgement; under = [] }
 
 -- what is told of a datagram
-abbrev pub IsAccount : Listing → Head → List ℕ → Account → Type 0
+abbrev pub IsAccount : Listing → RecordHead → List ℕ → Account → Type 0
 IsAccount listing head datagram account =
     ((value : PacketValue) × (IsAccepted head datagram value × (account ≡ account_of listing value)))
     ⊎ ((judgement : Judgement) × (IsTurnedAway head datagram judgement × (account ≡ turned_away judgement)))
 
--- the accounts stand one for one with the datagrams
-abbrev pub AreAccounts : Listing → Head → List (List ℕ) → List Account → Type 0
+-- the accounts stand one for one with the frames
+abbrev pub AreAccounts : Listing → RecordHead → List Frame → List Account → Type 0
 AreAccounts listing head [] [] = Unit {0}
 AreAccounts listing head [] (account ∷ accounts) = ⊥
-AreAccounts listing head (datagram ∷ datagrams) [] = ⊥
-AreAccounts listing head (datagram ∷ datagrams) (account ∷ accounts) =
-    IsAccount listing head datagram account × AreAccounts listing head datagrams accounts
+AreAccounts listing head (frame ∷ frames) [] = ⊥
+AreAccounts listing head (frame ∷ frames) (account ∷ accounts) =
+    IsAccount listing head frame.datagram account × AreAccounts listing head frames accounts
 
--- the text of these datagrams
-abbrev pub IsText : Listing → Head → List (List ℕ) → List ℕ → Type 0
-IsText listing head datagrams text =
-    (accounts : List Account) × (AreAccounts listing head datagrams accounts × (text ≡ entries 1 accounts ++ summary accounts))
+-- no header stands whole in the bytes: they end inside it, or a field of it is wrong
+abbrev pub HasNoHead : List ℕ → Type 0
+HasNoHead bytes = IsHeadPart bytes ⊎ ((offset : ℕ) × IsHeadWrongAt bytes offset)
 
--- the text of these frames
-abbrev pub IsReport : Listing → Head → List ℕ → List ℕ → Type 0
-IsReport listing head frames text = (datagrams : List (List ℕ)) × (AreFrames datagrams frames × IsText listing head datagrams text)
+-- behind the last whole frame the bytes end, or a field of the next one is wrong
+abbrev pub IsLeftOver : List Frame → List ℕ → Type 0
+IsLeftOver frames rest =
+    IsFramePart (last_stamp first_stamp frames) rest ⊎ ((place : ℕ) × IsFrameWrongAt (last_stamp first_stamp frames) rest place)
+
+-- these frames stand whole in the bytes, and no others in front of a wrong field
+pub record HasFrames (head : RecordHead) (frames : List Frame) (bytes : List ℕ) : Type 0 where
+  pub rest : List ℕ
+  pub cut : IsCut head frames rest bytes
+  pub behind : IsLeftOver frames rest
+
+-- the entries of these frames
+abbrev pub AreEntries : Listing → RecordHead → List Frame → List ℕ → Type 0
+AreEntries listing head frames text =
+    (accounts : List Account) × (AreAccounts listing head frames accounts × (text ≡ entries 1 accounts))
+
+-- the text of the frames that stand whole in the bytes
+abbrev pub IsPart : Listing → List ℕ → List ℕ → Type 0
+IsPart listing bytes text =
+    (HasNoHead bytes × (text ≡ []))
+    ⊎ ((head : RecordHead) × ((frames : List Frame) × (HasFrames head frames bytes × AreEntries listing head frames text)))
 
 -- the bytes are a record, and this is its text
 abbrev pub IsOutput : Listing → List ℕ → List ℕ → Type 0
 IsOutput listing bytes text =
-    (head : Head) × ((datagrams : List (List ℕ)) × (IsRecord bytes head datagrams × IsText listing head datagrams text))
+    (head : RecordHead) × ((frames : List Frame) × (IsRecord head frames bytes
+        × ((accounts : List Account) × (AreAccounts listing head frames accounts × (text ≡ entries 1 accounts ++ summary accounts)))))

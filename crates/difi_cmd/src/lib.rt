@@ -3,11 +3,10 @@
 #![tactic(auto)]
 
 mod details;
-mod frames;
 mod judging;
-mod laws;
 mod lines;
 mod list;
+mod reading;
 mod report;
 mod run;
 mod status;
@@ -15,7 +14,9 @@ mod status;
 mod tests;
 mod text_buffer;
 mod transfer;
+mod words;
+#[cfg(test)]
+mod words_tests;
 
-pub use crate::laws::bytes_are_one_record;
 pub use crate::run::difi_run;
 pub use crate::status::Status;

@@ -1,11 +1,11 @@
 use crate::details::push_under;
-use crate::frames::Head;
 use crate::judging::{accepted, judge};
 use crate::lines::{Judgement, Listing, push_counts, push_line};
 use crate::text_buffer::TextBuffer;
 use crate::transfer::write_all;
 use difi_io::{Failed, Sink};
 use difi_packet::Packet;
+use replay_form::RecordHead;
 use std::alloc::Global;
 
 /// What is told of a record's frames, on its way to a sink.
@@ -26,8 +26,10 @@ pub(crate) struct Report {
 }
 
 impl Report {
-    ghost use Rattle.std.specs.Prelude.{◌≡◌, ℕ, ◌+◌, ◌-◌, ◌^◌, ◌<◌, ◌≤◌, ◌++◌, List, [], ◌∷◌, Option, length, false, count_by};
+    ghost use Rattle.std.specs.Prelude.{◌≡◌, ℕ, ◌+◌, ◌-◌, ◌^◌, ◌<◌, ◌≤◌, ◌++◌, List, [], ◌∷◌, Option, length, true, false, count_by, OnOk, OnErr};
     ghost use Rattle.difi_packet.specs.Packet.{value_of};
+    ghost use Rattle.replay_form.specs.FrameFields.{Frame};
+    ghost use Rattle.replay_form.specs.declared.record_head.RecordHead.{RecordHead};
     ghost use Rattle.difi_cmd.specs.declared.lines.Judgement.{Judgement};
     ghost use Rattle.difi_cmd.specs.Lines.{Account, entry, entries, summary, is_accepted, is_packet};
     ghost use Rattle.difi_cmd.specs.Text.{IsAccount, account_of, turned_away};
@@ -47,7 +49,7 @@ impl Report {
     }
 
     /// Judges the next frame, counts it and puts what is told of it behind the others.
-    pub fn add<K: Sink>(&mut self, alloc: Global, head: &Head, datagram: &[u8], sink: &mut K)
+    pub fn add<K: Sink>(&mut self, alloc: Global, head: &RecordHead, datagram: &[u8], sink: &mut K)
         requires fits { self.old.frames + 1 < 2 ^ 64 }
         requires counted { self.old.accepted ≤ self.old.frames }
         requires room { length self.old.text < 65536 }
@@ -55,11 +57,11 @@ impl Report {
         ensures counted { self.new.accepted ≤ self.new.frames }
         ensures room { length self.new.text < 65536 }
         ensures listing { self.new.listing ≡ self.old.listing }
-        ensures reports { (start : Option (List ℕ)) (before : ℕ) (done : List (List ℕ)) (accounts : List Account) →
-            IsReporting start (K.held sink.old) before (K.faults sink.old) head.now self.old done accounts →
-            (account : Account)
+        ensures reports { (start : Option (List ℕ)) (before : ℕ) (frames : List Frame) (accounts : List Account) (frame : Frame) →
+            IsReporting start (K.held sink.old) before (K.faults sink.old) head.now self.old frames accounts →
+            frame.datagram ≡ datagram.now → (account : Account)
             × IsReporting start (K.held sink.new) before (K.faults sink.new) head.now self.new
-            (done ++ datagram.now ∷ []) (accounts ++ account ∷ []) }
+            (frames ++ frame ∷ []) (accounts ++ account ∷ []) }
     {
         self.tell(alloc, head, datagram);
         if self.text.is_full() {
@@ -68,7 +70,7 @@ impl Report {
     }
 
     // Judges a frame, counts it and puts what is told of it behind the text.
-    fn tell(&mut self, alloc: Global, head: &Head, datagram: &[u8])
+    fn tell(&mut self, alloc: Global, head: &RecordHead, datagram: &[u8])
         requires fits { self.old.frames + 1 < 2 ^ 64 }
         requires counted { self.old.accepted ≤ self.old.frames }
         requires room { length self.old.text < 65536 }
@@ -126,13 +128,29 @@ impl Report {
         self.text.clear();
     }
 
+    /// Writes the text that waits. `Err` where a write failed, now or before.
+    pub fn flush<K: Sink>(&mut self, sink: &mut K) -> Result<(), Failed>
+        ensures frames { self.new.frames ≡ self.old.frames }
+        ensures accepted { self.new.accepted ≡ self.old.accepted }
+        ensures listing { self.new.listing ≡ self.old.listing }
+        ensures text { self.new.text ≡ [] }
+        ensures all { OnOk result (self.new.failed ≡ false) }
+        ensures cut { OnErr result (self.new.failed ≡ true) }
+        ensures sent { (start : Option (List ℕ)) (before : ℕ) (text : List ℕ) →
+            IsSent self.old.failed start (K.held sink.old) before (K.faults sink.old) self.old.text text →
+            IsSent self.new.failed start (K.held sink.new) before (K.faults sink.new) self.new.text text }
+    {
+        self.send(sink);
+        if self.failed { Err(Failed) } else { Ok(()) }
+    }
+
     /// Writes the last line and all that waits. `Err` where a write failed.
     pub fn finish<K: Sink>(mut self, sink: &mut K) -> Result<(), Failed>
         requires counted { self.accepted ≤ self.frames }
         requires room { length self.text < 65536 }
-        ensures { (start : Option (List ℕ)) (before : ℕ) (head : Head) (done : List (List ℕ))
+        ensures { (start : Option (List ℕ)) (before : ℕ) (head : RecordHead) (frames : List Frame)
             (accounts : List Account) →
-            IsReporting start (K.held sink.old) before (K.faults sink.old) head self done accounts →
+            IsReporting start (K.held sink.old) before (K.faults sink.old) head self frames accounts →
             IsFinished result start (K.held sink.new) before (K.faults sink.new)
             (entries 1 accounts ++ summary accounts) }
     {

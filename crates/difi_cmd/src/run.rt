@@ -1,13 +1,12 @@
-ghost use Rattle.std.specs.Prelude.{◌≡◌, ◌≢◌, ◌⊎◌, ◌↔◌, ℕ, IfSome, IfNone};
-ghost use Rattle.std.specs.Io.KnownBytes.{Keeps};
+ghost use Rattle.std.specs.Prelude.{◌≡◌, ◌≢◌, ◌⊎◌, ◌↔◌, ℕ, IfSome};
 ghost use Rattle.difi_io.specs.Faults.{Rose};
-ghost use Rattle.difi_cmd.specs.declared.lines.Listing.{Listing};
-ghost use Rattle.difi_cmd.specs.Words.{Asks, IsLine};
-ghost use Rattle.difi_cmd.specs.Outcome.{TakesTooMany, TakesUnreadable, WritesAll, WritesFront, IsVerdict};
+ghost use Rattle.difi_cmd.specs.declared.words.Line.{Line};
+ghost use Rattle.difi_cmd.specs.LineOfWords.{Asks};
+ghost use Rattle.difi_cmd.specs.Outcome.{Reads, TakesTooMany, TakesBad, WritesAll, WritesFront, IsVerdict};
 
-use crate::lines::Listing;
 use crate::list::list;
 use crate::status::Status;
+use crate::words::{WordsFault, line_of};
 use difi_io::{Gate, Sink, Source};
 use std::alloc::Global;
 use std::thread::Threads;
@@ -16,7 +15,8 @@ use std::thread::Threads;
 /// sink.
 ///
 /// `check` reads a record and writes a line for each of its frames, and `show` writes under the line
-/// of a packet what it holds.
+/// of a packet what it holds. Each frame's lines are written before the next bytes are read. Both take
+/// `--max-bytes N`, the most bytes of a record.
 pub fn difi_run<R: Threads + Sync, S: Source + Send, K: Sink + Send, G: Gate + Sync>(
     rt: &R,
     alloc: Global,
@@ -25,48 +25,35 @@ pub fn difi_run<R: Threads + Sync, S: Source + Send, K: Sink + Send, G: Gate + S
     sink: &mut K,
     gate: &G,
 ) -> Status
-    // Words that are no line, and no others, are refused, and nothing is done.
-    ensures usage { (result ≡ Status.Usage) ↔ ¬ IsLine words.now }
-    ensures line { result ≢ Status.Usage → IsLine words.now }
+    // Words that are no line, and no others, are refused, and nothing is done. Nor is where memory is
+    // missing: all of it is taken first.
+    ensures usage { result ≡ Status.Usage → (line : Line) → ¬ Asks words.now line }
+    ensures refused { ((line : Line) → ¬ Asks words.now line) → (result ≡ Status.Usage) ⊎ (result ≡ Status.Memory) }
     ensures untouched { result ≡ Status.Usage → (source.new ≡ source.old) × (sink.new ≡ sink.old) }
+    ensures memory { result ≡ Status.Memory → (source.new ≡ source.old) × (sink.new ≡ sink.old) }
 
-    // The cause of each other status, and what was written.
-    ensures read_fault { result ≡ Status.ReadFault →
-        Rose (S.faults source.old) (S.faults source.new) × Keeps (K.held sink.old) (K.held sink.new) }
-    ensures too_long { result ≡ Status.TooLong →
-        TakesTooMany (S.left source.old) (S.left source.new) × Keeps (K.held sink.old) (K.held sink.new) }
-    ensures bad_record { (offset : ℕ) → result ≡ Status.BadRecord offset → (offset ≡ 0)
-        × TakesUnreadable (S.left source.old) (S.left source.new)
-        × Keeps (K.held sink.old) (K.held sink.new) }
+    // The cause of each other status, with the bytes taken and what was written.
+    ensures read_fault { result ≡ Status.ReadFault → Rose (S.faults source.old) (S.faults source.new)
+        × (line : Line) × Asks words.now line
+        × Reads line (S.left source.old) (S.left source.new) (K.held sink.old) (K.held sink.new) }
+    ensures too_long { result ≡ Status.TooLong → (line : Line) × Asks words.now line
+        × TakesTooMany line (S.left source.old) (S.left source.new) (K.held sink.old) (K.held sink.new) }
+    ensures bad_record { (offset : ℕ) → result ≡ Status.BadRecord offset → (line : Line) × Asks words.now line
+        × TakesBad line offset (S.left source.old) (S.left source.new) (K.held sink.old) (K.held sink.new) }
     ensures write_fault { result ≡ Status.WriteFault → Rose (K.faults sink.old) (K.faults sink.new)
-        × (listing : Listing) × Asks words.now listing
-        × WritesFront listing (S.left source.old) (S.left source.new) (K.held sink.old) (K.held sink.new) }
-    ensures memory { result ≡ Status.Memory → Keeps (K.held sink.old) (K.held sink.new) }
-    ensures done { result ≡ Status.Done → (listing : Listing) × Asks words.now listing
-        × WritesAll listing (S.left source.old) (S.left source.new) (K.held sink.old) (K.held sink.new) }
+        × (line : Line) × Asks words.now line
+        × WritesFront line (S.left source.old) (S.left source.new) (K.held sink.old) (K.held sink.new) }
+    ensures done { result ≡ Status.Done → (line : Line) × Asks words.now line
+        × WritesAll line (S.left source.old) (S.left source.new) (K.held sink.old) (K.held sink.new) }
 
     // Where no read and no write fails, the bytes decide, unless memory runs out.
-    ensures complete { IsLine words.now → ¬ Rose (S.faults source.old) (S.faults source.new) →
+    ensures complete { (line : Line) → Asks words.now line → ¬ Rose (S.faults source.old) (S.faults source.new) →
         ¬ Rose (K.faults sink.old) (K.faults sink.new) →
-        IfSome (S.left source.old) (λ bytes. (result ≡ Status.Memory) ⊎ IsVerdict bytes result) }
+        IfSome (S.left source.old) (λ bytes. (result ≡ Status.Memory) ⊎ IsVerdict line.max_bytes bytes result) }
 {
-    match listing_of(words) {
-        Some(listing) => list(alloc, listing, source, sink),
-        None => Status::Usage,
-    }
-}
-
-// The listing that the words ask for.
-fn listing_of(words: &[String]) -> Option<Listing>
-    ensures found { IfSome result (λ listing. Asks words.now listing) }
-    ensures none { IfNone result (¬ IsLine words.now) }
-{
-    match words {
-        [word] => match word.as_str() {
-            "check" => Some(Listing::Check),
-            "show" => Some(Listing::Show),
-            _ => None,
-        },
-        _ => None,
+    match line_of(alloc, words) {
+        Ok(line) => list(alloc, line, source, sink),
+        Err(WordsFault::Usage) => Status::Usage,
+        Err(WordsFault::Memory) => Status::Memory,
     }
 }

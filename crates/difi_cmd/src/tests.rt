@@ -37,10 +37,13 @@ const CONTEXT: [u32; 27] = [
 /// A record with no route and a frame with this datagram.
 fn record_of(alloc: Global, datagram: &[u32; 27]) -> Result<Vec<u8>, AllocError> {
     let mut bytes = Vec::from_slice(alloc, b"DIFIREC1")?;
-    for number in [0x6A_621E_u32, 1, 400] {
+    for number in [0x6A_621E_u32, 1, 400, 0, 0, 4, 8, 0, 0, 0, 0, 0, 0] {
         bytes.extend_from_slice(&number.to_be_bytes())?;
     }
-    bytes.extend_from_slice(&[0; 312])?;
+    for word in &CONTEXT[8..] {
+        bytes.extend_from_slice(&word.to_be_bytes())?;
+    }
+    bytes.extend_from_slice(&[0; 196])?;
     bytes.extend_from_slice(&[0; 16])?;
     bytes.extend_from_slice(&108_u32.to_be_bytes())?;
     for word in datagram {

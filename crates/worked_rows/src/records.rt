@@ -71,6 +71,16 @@ pub fn header(alloc: Global) -> Result<Vec<u8>, AllocError> {
     Ok(record)
 }
 
+/// The same of a record of the second form, up to its one route.
+pub fn second_header(alloc: Global) -> Result<Vec<u8>, AllocError> {
+    let mut record = header(alloc)?;
+    record.truncate(332);
+    if let Some(form) = record.get_mut(7) {
+        *form = b'2';
+    }
+    Ok(record)
+}
+
 /// Puts a frame with these bytes of a datagram at the end, which came on port 5.
 pub fn push_frame(record: &mut Vec<u8>, datagram: &[u8]) -> Result<(), AllocError> {
     push_words(record, &[0x6553_F10A, 0, 0, 0x0005_0000])?;
@@ -86,12 +96,11 @@ pub fn datagram(alloc: Global, words: &[u32]) -> Result<Vec<u8>, AllocError> {
     Ok(bytes)
 }
 
-/// Runs a line of one word over a record that is read in pieces, and whose listed reads and writes
-/// fail.
+/// Runs a line of words over a record that is read in pieces, and whose listed reads and writes fail.
 pub fn run_line<R: Threads + Sync>(
     rt: &R,
     alloc: Global,
-    line: &str,
+    line: &[&str],
     record: &[u8],
     piece: usize,
     reads: &[u64],
@@ -100,7 +109,9 @@ pub fn run_line<R: Threads + Sync>(
     requires { 1 ≤ piece }
 {
     let mut words = Vec::new(alloc);
-    words.push(String::from_str(alloc, line)?)?;
+    for word in line {
+        words.push(String::from_str(alloc, *word)?)?;
+    }
     let mut source = MemSource::new(record.to_vec(alloc)?, piece, reads.to_vec(alloc)?);
     let Ok(mut sink) = MemSink::new(alloc, 1 << 16, piece, writes.to_vec(alloc)?) else {
         return Err(Fail::from("no memory"));
@@ -122,7 +133,7 @@ pub fn run_with<R: Threads + Sync>(
 ) -> Result<Outcome, Fail>
     requires { 1 ≤ piece }
 {
-    run_line(rt, alloc, "check", record, piece, reads, writes)
+    run_line(rt, alloc, &["check"], record, piece, reads, writes)
 }
 
 /// Runs `check` over a record.
@@ -132,5 +143,5 @@ pub fn run<R: Threads + Sync>(rt: &R, alloc: Global, record: &[u8]) -> Result<Ou
 
 /// Runs `show` over a record.
 pub fn show<R: Threads + Sync>(rt: &R, alloc: Global, record: &[u8]) -> Result<Outcome, Fail> {
-    run_line(rt, alloc, "show", record, 4096, &[], &[])
+    run_line(rt, alloc, &["show"], record, 4096, &[], &[])
 }

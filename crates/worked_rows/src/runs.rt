@@ -50,13 +50,3 @@ fn a_datagram_of_more_words_than_allowed_is_too_large(rt: HostRuntime) -> Result
     assert_eq!(rt; outcome.text.as_slice(), text.as_bytes());
     Ok(())
 }
-
-#[test]
-fn a_header_cut_short_is_no_record(rt: HostRuntime) -> Result<(), Fail> {
-    let mut record = header(rt.alloc())?;
-    record.truncate(331);
-    let outcome = run(&rt, rt.alloc(), record.as_slice())?;
-    assert!(rt; outcome.status == Status::BadRecord { offset: 0 });
-    assert!(rt; outcome.text.is_empty());
-    Ok(())
-}

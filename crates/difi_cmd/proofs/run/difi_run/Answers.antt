@@ -1,11 +1,17 @@
-use Rattle.difi_io.specs.Faults.{Rose}
+use Rattle.std.proofs.Common.{◌≡◌, ◌⊎◌, ℕ, sym, subst}
+use Rattle.std.specs.Prelude.{IfSome}
+use Rattle.difi_cmd.specs.declared.words.Line.{Line}
+use Rattle.difi_cmd.specs.declared.status.Status.TheVariants.{Memory}
+use Rattle.difi_cmd.specs.Outcome.{IsVerdict}
+use Rattle.difi_cmd.specs.LineLaws.{one_line}
 use Rattle.difi_cmd.proofs.Complete.{complete}
 use Rattle.difi_cmd.proofs.run.difi_run.Goals as goal
 
-pub returns-in-Some-clause-complete : goal.returns-in-Some-clause-complete
-returns-in-Some-clause-complete g c = λ line no_read no_write.
-    let e = c.list.ensures in
-    let read = Rose (g.S.Source.faults c.args.source.now) (g.S.Source.faults c.list.new.source) in
-    let written = Rose (g.K.Sink.faults c.args.sink.now) (g.K.Sink.faults c.list.new.sink) in
-    complete c.list.result c.in-Some.listing (g.S.Source.left c.args.source.now) (g.S.Source.left c.list.new.source) (g.K.Sink.held c.args.sink.now) (g.K.Sink.held c.list.new.sink) read written
-    e.no_usage (λ h. (e.read_fault h).0) (λ h. (e.write_fault h).0) (λ h. (e.too_long h).0) (λ n h. ((e.bad_record n h).0, (e.bad_record n h).1)) e.done no_read no_write
+pub returns-in-Ok-clause-bad_record : goal.returns-in-Ok-clause-bad_record
+returns-in-Ok-clause-bad_record g c = λ offset e. (c.in-Ok.line, c.in-Ok.ensures.found, c.list.ensures.bad_record offset e)
+
+pub returns-in-Ok-clause-complete : goal.returns-in-Ok-clause-complete
+returns-in-Ok-clause-complete g c = λ line asks no_read no_write.
+    let same = one_line c.args.words.now line c.in-Ok.line asks c.in-Ok.ensures.found in
+    subst (λ (l : Line). IfSome (g.S.Source.left c.args.source.now) (λ bytes. (c.list.result ≡ Memory) ⊎ IsVerdict l.max_bytes bytes c.list.result)) (sym same)
+    (complete c.list.result c.in-Ok.line _ _ _ _ _ (g.S.Source.left c.list.new.source) (g.K.Sink.held c.args.sink.now) (g.K.Sink.held c.list.new.sink) c.list.ensures.outcome no_read no_write)
