@@ -29,13 +29,12 @@ front_of most taken rest =
       | inr apart ↦ elim apart [
         | inl less ↦ ([], take-append-le most taken rest (omega arith) ∙ sym (append-nil (take most taken)))
         | inr more ↦ (
-          let n : most ≡ length taken + (most - length taken) = omega arith in
-          let all : take most taken ≡ taken = take_all most taken (omega arith) in
-          (
-            take (most - length taken) rest,
-            ap (λ k. take k (taken ++ rest)) n ∙ take-append-add taken rest (most - length taken) ∙ ap (λ l. l ++ take (most - length taken) rest) (sym all),
-          )
-        )
+            let n : most ≡ length taken + (most - length taken) = omega arith in
+            let all : take most taken ≡ taken = take_all most taken (omega arith) in (
+              take (most - length taken) rest,
+              ap (λ k. take k (taken ++ rest)) n ∙ take-append-add taken rest (most - length taken) ∙ ap (λ l. l ++ take (most - length taken) rest) (sym all),
+            )
+            )
       ]
     ]
 

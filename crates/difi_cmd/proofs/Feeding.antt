@@ -61,23 +61,23 @@ wrong_part : (listing : Listing) (old : Reading) (piece : List ℕ) (offset : �
 wrong_part listing old piece offset new taken frames told fails sound stands judged =
     elim (standing old taken frames sound stands) [
       | inl b ↦ (
-        let wrong = subst (λ xs. IsHeadWrongAt xs offset) (ap (λ xs. xs ++ piece) (sym b.bytes)) (fails.in_head b.started) in
-        inl (inr (offset, wrong), ap (entries 1) (no_accounts listing old.head told (none_told listing old taken frames told b judged)))
-      )
+          let wrong = subst (λ xs. IsHeadWrongAt xs offset) (ap (λ xs. xs ++ piece) (sym b.bytes)) (fails.in_head b.started) in
+          inl (inr (offset, wrong), ap (entries 1) (no_accounts listing old.head told (none_told listing old taken frames told b judged)))
+          )
       | inr g ↦ (
-        let f = fails.in_frame g.started in
-        let wrong = subst (λ last. IsFrameWrongAt last (begun old ++ piece) f.0) g.last f.1.0 in
-        inr (
-          old.head,
-          (
-            frames,
+          let f = fails.in_frame g.started in
+          let wrong = subst (λ last. IsFrameWrongAt last (begun old ++ piece) f.0) g.last f.1.0 in
+          inr (
+            old.head,
             (
-              record { rest = begun old ++ piece; cut = cut-append old.head frames (begun old) taken piece g.so_far.cut; behind = inr (f.0, wrong) },
-              (told, (judged, refl)),
+              frames,
+              (
+                record { rest = begun old ++ piece; cut = cut-append old.head frames (begun old) taken piece g.so_far.cut; behind = inr (f.0, wrong) },
+                (told, (judged, refl)),
+              ),
             ),
-          ),
-        )
-      )
+          )
+          )
     ]
 
 failing : (fault : Option RecordFault) (old : Reading) (piece : List ℕ) (offset : ℕ) (new : Reading) → fault ≡ None → IsFailed fault old piece offset new → IsNewFault old piece offset new
@@ -187,7 +187,7 @@ pub along_step : (start held held' : Option (List ℕ)) (before now now' : ℕ) 
     (report report' : Report) (taken : List ℕ) → IsStep old piece count event new
     → ((taken : List ℕ) (frames : List Frame) → StandsFor old taken frames → StandsFor new (taken ++ take count piece) (frames_after event frames new))
     → ((frames : List Frame) (told : List Account) → IsReporting start held before now new.head report frames told
-        → (later : List Account) × IsReporting start held' before now' new.head report' (frames_after event frames new) later)
+    → (later : List Account) × IsReporting start held' before now' new.head report' (frames_after event frames new) later)
     → IsAlong start held before now old report taken → IsAlong start held' before now' new report' (taken ++ take count piece)
 along_step start held held' before now now' old piece count event new report report' taken step stands told a =
     let kept = reporting_kept start held before now old piece count event new report taken a.0 a.1.0 step a.1.1.0 a.1.1.1 in

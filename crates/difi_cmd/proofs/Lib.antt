@@ -2,6 +2,12 @@ pub mod Texts
 pub mod Feeding
 pub mod Outcomes
 pub mod Complete
-pub mod ClapLine
+pub mod ClapOptions
+pub mod ClapTurns
+pub mod ClapWalk
+pub mod ClapSpelling
+pub mod ClapItems
 pub mod ClapCommand
+pub mod MaxBytes
 pub mod Values
+pub mod LineLaws

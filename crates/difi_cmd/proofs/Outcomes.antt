@@ -62,10 +62,11 @@ take_least more count xs =
         | inr over ↦ take_all more (take count xs) (omega (arith, length-take count xs)) ∙ ap (λ n. take n xs) (other more count (omega arith))
       ]
     ] where
-  least : (more count : ℕ) → more ≤ count → more ≡ min count more
-  least more count h = omega arith
-  other : (more count : ℕ) → count ≤ more → count ≡ min count more
-  other more count h = omega arith
+      least : (more count : ℕ) → more ≤ count → more ≡ min count more
+      least more count h = omega arith
+
+      other : (more count : ℕ) → count ≤ more → count ≡ min count more
+      other more count h = omega arith
 
 -- the first bytes that may be judged, of those taken and those just read
 judged : (taken piece : List ℕ) (most more count : ℕ) → length taken + more ≡ most → take most (taken ++ take count piece) ≡ taken ++ take (min count more) piece
@@ -107,14 +108,17 @@ module _ (line : Line) (reader : Reading) (report : Report) (more : ℕ) (left l
     part = subst (λ l. IsPart line.listing l told.0) (sym are_judged) (subst (λ (l : Listing). IsPart l (at.taken ++ take (min count more) piece) told.0) (listing ∙ at.listing) told.1.0.1);
     written = told.1.1;
   }
-  stopped WriteFault read_before read_now reader' report' listing told = (told.1.1.1.1, record {
-    bytes = at.taken ++ take count piece;
-    taken = all_taken;
-    text = told.0;
-    so_far = inl (subst (λ l. IsPart line.listing l told.0) (sym are_judged) (subst (λ (l : Listing). IsPart l (at.taken ++ take (min count more) piece) told.0) (listing ∙ at.listing) told.1.0));
-    number = told.1.1.0;
-    written = told.1.1.1.0;
-  })
+  stopped WriteFault read_before read_now reader' report' listing told = (
+    told.1.1.1.1,
+    record {
+      bytes = at.taken ++ take count piece;
+      taken = all_taken;
+      text = told.0;
+      so_far = inl (subst (λ l. IsPart line.listing l told.0) (sym are_judged) (subst (λ (l : Listing). IsPart l (at.taken ++ take (min count more) piece) told.0) (listing ∙ at.listing) told.1.0));
+      number = told.1.1.0;
+      written = told.1.1.1.0;
+    },
+  )
   stopped Done read_before read_now reader' report' listing told = absurd told
   stopped Usage read_before read_now reader' report' listing told = absurd told
   stopped ReadFault read_before read_now reader' report' listing told = absurd told
@@ -164,10 +168,13 @@ module _ (line : Line) (reader : Reading) (report : Report) (more : ℕ) (left l
   ended status read_before read_now none end e = over status read_before read_now (subst (λ (l : Listing). IsEnded status l held held'' write write'' at.taken) at.listing e) where
     within : length at.taken ≤ line.max_bytes
     within = omega (arith, at.room)
+
     consumed : Consumes left left'' at.taken
     consumed = subst (Consumes left left'') (ap (λ n. at.taken ++ take n piece) none ∙ append-nil at.taken) all_taken
+
     whole : take line.max_bytes at.taken ≡ at.taken
     whole = take_all line.max_bytes at.taken within
+
     over : (status : Status) (read_before read_now : ℕ) → IsEnded status line.listing held held'' write write'' at.taken → IsOutcome status line read_before read_now write write'' left left'' held held''
     over Done b n o = record { bytes = at.taken; taken = consumed; at_end = end; within = within; text = o.0; output = o.1.0; written = o.1.1 }
     over WriteFault b n o = (o.1.1.1.1, record { bytes = at.taken; taken = consumed; text = o.0; so_far = inr (within, (end, o.1.0)); number = o.1.1.0; written = o.1.1.1.0 })

@@ -5,6 +5,5 @@ pub mod Text
 pub mod TextLaws
 pub mod Progress
 pub mod LineOfWords
-pub mod LineLaws
 pub mod Outcome
 pub mod Steps

@@ -1,12 +1,13 @@
 -- What a line of words asks for: a command, and options with their values.
-use Rattle.std.specs.Prelude.{◌≡◌, ◌≤◌, ◌==◌, ◌&&◌, Bool, false, not, ◌++◌, ◌^◌, ℕ, List, [], ◌∷◌, Contains, All, codes}
-use Rattle.std.specs.Prelude.{None, Option, Some, String, drop, filter, length, map, string_bytes}
-use Rattle.std.specs.List.{flat_map}
+use Rattle.std.specs.Prelude.{◌≡◌, ◌≤◌, ◌==◌, ◌&&◌, ◌++◌, ◌^◌, ℕ, Bool, false, not, List, [], ◌∷◌}
+use Rattle.std.specs.Prelude.{All, Contains, None, Option, Some, String, codes, drop, filter, length}
+use Rattle.std.specs.Prelude.{map, string_bytes}
+use Rattle.std.specs.List.{flat_map, list_any}
 use Rattle.std.specs.Str.{bytes_eq}
 use Rattle.std.specs.Str.Parse.{IsNumeral, digits_value}
 use Rattle.difi_cmd.specs.declared.lines.Listing.{Listing}
-use Rattle.difi_cmd.specs.declared.words.Line.{Line}
 use Rattle.difi_cmd.specs.declared.lines.Listing.TheVariants.{Check, Show}
+use Rattle.difi_cmd.specs.declared.words.Line.{Line}
 
 abbrev pub Text : Type 0
 Text = List ℕ
@@ -34,9 +35,10 @@ words_of_item (apart name value) = (codes "--" ++ name) ∷ value ∷ []
 
 abbrev pub BeginsWithHyphen : Text → Type 0
 BeginsWithHyphen [] = ⊥
-BeginsWithHyphen (byte ∷ bytes) = byte ≡ 45
+BeginsWithHyphen (first ∷ rest) = first ≡ 45
 
--- an option of this list, written out; a value that is a word of its own begins with no hyphen
+-- an option of this list, with its whole name; a value that is a word of its own begins with no
+-- hyphen
 abbrev pub IsItem : List Text → Item → Type 0
 IsItem options (joined name value) = Contains options name
 IsItem options (apart name value) = Contains options name × ¬ BeginsWithHyphen value
@@ -45,13 +47,6 @@ IsItem options (apart name value) = Contains options name × ¬ BeginsWithHyphen
 pub record AreItems (options : List Text) (words : List Text) (items : List Item) : Type 0 where
   pub spelled : words ≡ flat_map words_of_item items
   pub known : All (IsItem options) items
-
--- the word begins with a hyphen, and is no `--` with a name behind it
-abbrev pub is_stray : Text → Bool
-is_stray [] = false
-is_stray (first ∷ []) = first == 45
-is_stray (first ∷ second ∷ []) = first == 45
-is_stray (first ∷ second ∷ third ∷ rest) = first == 45 && not (second == 45)
 
 -- the values that the items give an option
 abbrev pub values_of : Text → List Item → List Text
@@ -64,7 +59,7 @@ pub record NumberRange : Type 0 where
   pub greatest : ℕ
   pub default : ℕ
 
--- a value: 1 to 19 decimal digits
+-- a value: 1 to 19 decimal digits, and zeros may stand in front
 pub record IsValue (value : Text) : Type 0 where
   pub digits : IsNumeral 10 value
   pub short : length value ≤ 19
@@ -84,10 +79,9 @@ Gives range (value ∷ other ∷ values) number = ⊥
 
 -- ---- the line
 
--- the word that names a listing
-abbrev pub name_of : Listing → Text
-name_of Check = codes "check"
-name_of Show = codes "show"
+abbrev pub word_of : Listing → Text
+word_of Check = codes "check"
+word_of Show = codes "show"
 
 abbrev pub max_bytes_option : Text
 max_bytes_option = codes "max-bytes"
@@ -98,32 +92,54 @@ max_bytes_range = record { least = 1; greatest = 2 ^ 62; default = 2 ^ 40 }
 abbrev pub options_of : Listing → List Text
 options_of listing = max_bytes_option ∷ []
 
--- none or one
-abbrev pub value_list : Option Text → List Text
-value_list None = []
-value_list (Some value) = value ∷ []
+-- the first word is the command's
+abbrev pub IsNamedFirst : List Text → Listing → Type 0
+IsNamedFirst [] listing = ⊥
+IsNamedFirst (word ∷ words) listing = word ≡ word_of listing
 
--- the words behind the command's word are items that give an option this value, or none
-pub record GiveOption (options : List Text) (name : Text) (words : List Text) (value : Option Text) : Type 0 where
-  pub items : List Item
-  pub are_items : AreItems options words items
-  pub values : values_of name items ≡ value_list value
-
--- what the words behind the command's word ask for
+-- the words behind the command's word ask for this
 pub record AsksBehind (words : List Text) (line : Line) : Type 0 where
   pub items : List Item
   pub are_items : AreItems (options_of line.listing) words items
   pub max_bytes : Gives max_bytes_range (values_of max_bytes_option items) line.max_bytes
 
--- the first word is the command's
-abbrev pub IsNamedFirst : List Text → Listing → Type 0
-IsNamedFirst [] listing = ⊥
-IsNamedFirst (word ∷ words) listing = word ≡ name_of listing
+-- the words ask for this line
+pub record Asks {A : Type 0} (words : List (String A)) (line : Line) : Type 0 where
+  pub named : IsNamedFirst (map string_bytes words) line.listing
+  pub behind : AsksBehind (drop 1 (map string_bytes words)) line
 
+-- ---- the parts of the reading
+
+-- the first word names the listing
 abbrev pub NamesListing : {A : Type 0} → List (String A) → Listing → Type 0
 NamesListing words listing = IsNamedFirst (map string_bytes words) listing
 
--- the words ask for this line: the first names the command, and those behind it are its options
-pub record Asks {A : Type 0} (words : List (String A)) (line : Line) : Type 0 where
-  pub named : NamesListing words line.listing
-  pub behind : AsksBehind (drop 1 (map string_bytes words)) line
+-- the word begins with a hyphen, and is no `--` with a name behind it
+abbrev pub is_stray : Text → Bool
+is_stray [] = false
+is_stray (first ∷ []) = first == 45
+is_stray (first ∷ second ∷ []) = first == 45
+is_stray (first ∷ second ∷ third ∷ rest) = first == 45 && not (second == 45)
+
+-- such a word stands behind the first
+abbrev pub has_stray : {A : Type 0} → List (String A) → Bool
+has_stray words = list_any is_stray (drop 1 (map string_bytes words))
+
+-- none or one
+abbrev pub value_list : Option Text → List Text
+value_list None = []
+value_list (Some value) = value ∷ []
+
+-- the words are items of these options, which give one option this value, or none
+pub record GiveOption (options : List Text) (name : Text) (words : List Text) (value : Option Text) : Type 0 where
+  pub items : List Item
+  pub are_items : AreItems options words items
+  pub values : values_of name items ≡ value_list value
+
+-- the words behind the first give `--max-bytes` this value, or none, and nothing else
+abbrev pub GiveMaxBytes : {A : Type 0} → List (String A) → Option Text → Type 0
+GiveMaxBytes words value = GiveOption (max_bytes_option ∷ []) max_bytes_option (drop 1 (map string_bytes words)) value
+
+-- the number that this value of `--max-bytes`, or none, stands for
+abbrev pub IsMaxBytes : Option Text → ℕ → Type 0
+IsMaxBytes value number = Gives max_bytes_range (value_list value) number

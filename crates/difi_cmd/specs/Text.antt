@@ -81,4 +81,4 @@ IsPart listing bytes text =
 abbrev pub IsOutput : Listing → List ℕ → List ℕ → Type 0
 IsOutput listing bytes text =
     (head : RecordHead) × ((frames : List Frame) × (IsRecord head frames bytes
-        × ((accounts : List Account) × (AreAccounts listing head frames accounts × (text ≡ entries 1 accounts ++ summary accounts)))))
+    × ((accounts : List Account) × (AreAccounts listing head frames accounts × (text ≡ entries 1 accounts ++ summary accounts)))))

@@ -91,7 +91,11 @@ fn read_record<S: Source, K: Sink>(
 }
 
 // Reads the next bytes into the front of the piece, no more than one behind those that are judged.
-fn read_piece<S: Source>(source: &mut S, piece: &mut [u8; PIECE], left: u64) -> Result<usize, Failed>
+fn read_piece<S: Source>(
+    source: &mut S,
+    piece: &mut [u8; PIECE],
+    left: u64,
+) -> Result<usize, Failed>
     ensures within { IfOk result (λ n. n ≤ length piece.new) }
     ensures most { IfOk result (λ n. n ≤ left + 1) }
     ensures bytes { IfOk result (λ n. Consumes (S.left source.old) (S.left source.new) (take n piece.new)) }

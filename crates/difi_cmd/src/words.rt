@@ -1,8 +1,10 @@
-ghost use Rattle.std.specs.List.{list_all, list_any};
+ghost use Rattle.std.specs.Prelude.{◌≡◌, ◌≢◌, ◌↔◌, ◌≤◌, ◌^◌, ℕ, Option, IfOk, IfSome, IfNone, IsTrue};
+ghost use Rattle.std.specs.Prelude.{All, codes, map, option_map, string_bytes};
 ghost use Rattle.std.specs.Char.{is_ascii_digit};
-ghost use Rattle.std.specs.Prelude.{◌≡◌, ◌↔◌, IsTrue, [], ◌∷◌, ◌≤◌, ◌^◌, ℕ, List, Option, IfOk, IfSome, IfNone, All, map, drop, option_map, string_bytes, codes};
+ghost use Rattle.std.specs.List.{list_all, list_any};
 ghost use Rattle.std.specs.Str.Parse.{digits_value};
-ghost use Rattle.difi_cmd.specs.LineOfWords.{Asks, GiveOption, Gives, IsValue, NamesListing, Text, max_bytes_option, max_bytes_range, is_stray as stray, value_list};
+ghost use Rattle.difi_cmd.specs.LineOfWords.{Asks, GiveMaxBytes, IsMaxBytes, IsValue, NamesListing, Text};
+ghost use Rattle.difi_cmd.specs.LineOfWords.{has_stray as has_stray_word, is_stray as is_stray_word};
 
 use crate::lines::Listing;
 use clap::error::ErrorKind;
@@ -31,11 +33,13 @@ pub(crate) enum WordsFault {
 }
 
 const MAX_BYTES: &str = "max-bytes";
+
 const DEFAULT_MAX_BYTES: u64 = 1 << 40;
+
 const GREATEST_MAX_BYTES: u64 = 1 << 62;
 
-/// What these words ask for, which are those behind the program's name: the word of a command, and
-/// behind it options with their values, as `--max-bytes N` or `--max-bytes=N`.
+/// What these words ask for, which are those behind the program's name: first the word of a command,
+/// then options with their values, each as `--max-bytes N` or as `--max-bytes=N`.
 pub(crate) fn line_of(alloc: Global, words: &[String]) -> Result<Line, WordsFault>
     ensures found { IfOk result (λ line. Asks words.now line) }
     ensures usage { result ≡ Err WordsFault.Usage → (line : Line) → ¬ Asks words.now line }
@@ -69,10 +73,9 @@ fn listing_named(words: &[String]) -> Option<Listing>
 
 // The value of the option `--max-bytes` behind the first word.
 fn value_given<'a>(alloc: Global, words: &'a [String]) -> Result<Option<&'a str>, WordsFault>
-    ensures given { IfOk result (λ value.
-        GiveOption (max_bytes_option ∷ []) max_bytes_option (drop 1 (map string_bytes words.now)) (option_map (λ s. s.now) value)) }
-    ensures usage { result ≡ Err WordsFault.Usage → (value : Option Text) →
-        ¬ GiveOption (max_bytes_option ∷ []) max_bytes_option (drop 1 (map string_bytes words.now)) value }
+    ensures given { IfOk result (λ value. GiveMaxBytes words.now (option_map (λ s. s.now) value)) }
+    ensures usage { result ≡ Err WordsFault.Usage →
+        (value : Option Text) → ¬ GiveMaxBytes words.now value }
 {
     if has_stray(words) {
         return Err(WordsFault::Usage);
@@ -93,9 +96,10 @@ fn value_given<'a>(alloc: Global, words: &'a [String]) -> Result<Option<&'a str>
     }
 }
 
-// Whether a word behind the first begins with a hyphen and names no option.
+// Whether a word behind the first begins with a hyphen and names no option. `clap` reads some of
+// these otherwise: it takes `-` for a value, and what follows `--` for no options.
 fn has_stray(words: &[String]) -> bool
-    ensures { result ≡ list_any stray (drop 1 (map string_bytes words.now)) }
+    ensures { result ≡ has_stray_word words.now }
 {
     match words.split_first() {
         Some((_, rest)) => is_any_stray(rest),
@@ -104,7 +108,7 @@ fn has_stray(words: &[String]) -> bool
 }
 
 fn is_any_stray(words: &[String]) -> bool
-    ensures { result ≡ list_any (λ word. stray (string_bytes word)) words.now }
+    ensures { result ≡ list_any (λ word. is_stray_word (string_bytes word)) words.now }
 {
     for word in words {
         if is_stray(word.as_str()) {
@@ -115,7 +119,7 @@ fn is_any_stray(words: &[String]) -> bool
 }
 
 fn is_stray(word: &str) -> bool
-    ensures { result ≡ stray word.now }
+    ensures { result ≡ is_stray_word word.now }
 {
     match word.as_bytes() {
         [] => false,
@@ -126,8 +130,9 @@ fn is_stray(word: &str) -> bool
 
 // The number of bytes that a value of `--max-bytes` writes, or its default.
 fn max_bytes_of(value: Option<&str>) -> Option<u64>
-    ensures found { IfSome result (λ number. Gives max_bytes_range (value_list (option_map (λ s. s.now) value.entry)) number) }
-    ensures none { IfNone result ((number : ℕ) → ¬ Gives max_bytes_range (value_list (option_map (λ s. s.now) value.entry)) number) }
+    ensures found { IfSome result (λ number. IsMaxBytes (option_map (λ s. s.now) value.entry) number) }
+    ensures none { IfNone result ((number : ℕ) →
+        ¬ IsMaxBytes (option_map (λ s. s.now) value.entry) number) }
 {
     let Some(text) = value else {
         return Some(DEFAULT_MAX_BYTES);
@@ -162,3 +167,11 @@ fn all_digits(bytes: &[u8]) -> bool
 {
     bytes.iter().all(|byte| byte.is_ascii_digit())
 }
+
+/// Laws that a proof can cite: words ask for one line at most, and `--` is none of them.
+#[inline]
+pub fn words_ask_for_one_line(words: &[String])
+    ensures one_line { (line other : Line) → Asks words.now line → Asks words.now other → line ≡ other }
+    ensures no_dashes { (line : Line) → Asks words.now line →
+        All (λ word. word ≢ codes "--") (map string_bytes words.now) }
+{}

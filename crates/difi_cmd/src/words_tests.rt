@@ -48,7 +48,10 @@ fn without_the_option_its_default_holds(rt: HostRuntime) -> Result<(), Fail> {
 fn a_value_stands_in_one_word_or_in_two(rt: HostRuntime) -> Result<(), Fail> {
     let alloc = rt.alloc();
     assert_eq!(rt; read(alloc, &["check", "--max-bytes=332"])?, check(332));
-    assert_eq!(rt; read(alloc, &["check", "--max-bytes", "00332"])?, check(332));
+    assert_eq!(rt;
+        read(alloc, &["check", "--max-bytes", "00332"])?,
+        check(332)
+    );
     assert_eq!(rt; read(alloc, &["check", "--max-bytes"])?, USAGE);
     assert_eq!(rt; read(alloc, &["check", "--max-bytes="])?, USAGE);
     assert_eq!(rt; read(alloc, &["check", "--max-bytes", "-5"])?, USAGE);

@@ -40,8 +40,8 @@ returns-in-Err-take g c =
     stopped c.args.line c.loop-count.reader c.loop-count.report c.loop-count.left _ _ _ _ _ _ _ _ _ inv.at c.read_piece.new.piece c.in-Ok.count c.in-Ok.ensures.bytes c.in-Err-take.status _ _
     c.take.new.reader c.take.new.report c.in-Err-take.ensures.listing
     (subst (λ (l : List ℕ). IsTold (Err c.in-Err-take.status) (g.K.Sink.held c.args.sink.now) (g.K.Sink.held c.take.new.sink) (g.K.Sink.faults c.args.sink.now) (g.K.Sink.faults c.take.new.sink)
-        c.take.new.reader c.take.new.report (inv.at.taken ++ l))
-        (front c.read_piece.new.piece c.first_of-within.result c.in-Ok.count c.loop-count.left c.first_of-within.ensures) told)
+    c.take.new.reader c.take.new.report (inv.at.taken ++ l))
+    (front c.read_piece.new.piece c.first_of-within.result c.in-Ok.count c.loop-count.left c.first_of-within.ensures) told)
 
 along_front : (held held' : Option (List ℕ)) (write write' : ℕ) (reader : Reading) (report : Report) (taken piece : List ℕ) (within count left : ℕ) → within ≡ min count left
     → IsAlong held held' write write' reader report (taken ++ take within piece) → IsAlong held held' write write' reader report (taken ++ take (min count left) piece)

@@ -9,9 +9,13 @@ loop-rest-smaller g c =
     let inv = c.loop-rest.invariant.stands in
     let rest = c.loop-rest.rest.now in
     let some = some_bytes rest (sym c.loop-rest-test.true ∙ c.is_empty.ensures) in
-    omega (arith, some_taken c.loop-rest.reader rest c.in-Ok.step.0 c.in-Ok.step.1 c.feed.new.self inv.taken inv.frames c.in-Ok.ensures.step inv.stands some,
-    count_within c.loop-rest.reader rest c.in-Ok.step.0 c.in-Ok.step.1 c.feed.new.self c.in-Ok.ensures.step,
-    ap length c.behind-rest.ensures, length-drop c.in-Ok.step.0 rest)
+    omega (
+      arith,
+      some_taken c.loop-rest.reader rest c.in-Ok.step.0 c.in-Ok.step.1 c.feed.new.self inv.taken inv.frames c.in-Ok.ensures.step inv.stands some,
+      count_within c.loop-rest.reader rest c.in-Ok.step.0 c.in-Ok.step.1 c.feed.new.self c.in-Ok.ensures.step,
+      ap length c.behind-rest.ensures,
+      length-drop c.in-Ok.step.0 rest,
+    )
 
 pub loop-rest-preserved : goal.loop-rest-preserved
 loop-rest-preserved g c =
@@ -49,5 +53,5 @@ returns-in-Err-clause-fed g c = λ start before taken frames told stands reporti
     let a = inv.along start before taken frames told stands reporting in
     let whole : (taken ++ inv.front) ++ rest ≡ taken ++ c.args.bytes.now = append_assoc taken inv.front rest ∙ ap (λ l. taken ++ l) (sym inv.split) in
     let wrong = wrong_text c.loop-rest.report.listing c.loop-rest.reader rest c.in-Err.fault.offset c.feed.new.self (taken ++ inv.front) a.0 a.1.0
-        c.in-Err.ensures.wrong inv.stands.sound a.1.1.0 (c.in-Err.ensures.fails (taken ++ inv.front) a.0 a.1.1.0) a.1.1.1.judged in
+    c.in-Err.ensures.wrong inv.stands.sound a.1.1.0 (c.in-Err.ensures.fails (taken ++ inv.front) a.0 a.1.1.0) a.1.1.1.judged in
     (entries 1 a.1.0, (subst (λ l. IsWrongText c.loop-rest.report.listing l c.in-Err.fault.offset (entries 1 a.1.0)) whole wrong, a.1.1.1.sent))

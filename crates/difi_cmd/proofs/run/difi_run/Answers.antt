@@ -3,7 +3,7 @@ use Rattle.std.specs.Prelude.{IfSome}
 use Rattle.difi_cmd.specs.declared.words.Line.{Line}
 use Rattle.difi_cmd.specs.declared.status.Status.TheVariants.{Memory}
 use Rattle.difi_cmd.specs.Outcome.{IsVerdict}
-use Rattle.difi_cmd.specs.LineLaws.{one_line}
+use Rattle.difi_cmd.proofs.LineLaws.{one_line}
 use Rattle.difi_cmd.proofs.Complete.{complete}
 use Rattle.difi_cmd.proofs.run.difi_run.Goals as goal
 
