@@ -3,6 +3,7 @@ pub mod Lines
 pub mod Details
 pub mod Text
 pub mod TextLaws
+pub mod OneText
 pub mod Progress
 pub mod LineOfWords
 pub mod Outcome

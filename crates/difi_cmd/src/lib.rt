@@ -4,6 +4,7 @@
 
 mod details;
 mod judging;
+mod laws;
 mod lines;
 mod list;
 mod reading;
@@ -18,5 +19,6 @@ mod words;
 #[cfg(test)]
 mod words_tests;
 
+pub use crate::laws::bytes_have_one_text;
 pub use crate::run::difi_run;
 pub use crate::status::Status;

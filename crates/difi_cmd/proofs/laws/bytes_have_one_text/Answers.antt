@@ -1,0 +1,8 @@
+use Rattle.difi_cmd.specs.OneText.{one_part, one_output}
+use Rattle.difi_cmd.proofs.laws.bytes_have_one_text.Goals as goal
+
+pub returns : goal.returns
+returns c = record {
+  so_far = one_part;
+  whole = one_output;
+}
