@@ -1,3 +1,4 @@
 pub mod Fields
 pub mod Taking
 pub mod TakingFrames
+pub mod Putting

@@ -7,6 +7,7 @@ mod head_field;
 mod head_rules;
 mod judge_head;
 mod numbers;
+mod put;
 mod read_head;
 mod reader;
 mod record_head;
