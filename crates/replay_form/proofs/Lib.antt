@@ -2,3 +2,4 @@ pub mod Fields
 pub mod Taking
 pub mod TakingFrames
 pub mod Putting
+pub mod FrameSpelling

@@ -95,7 +95,35 @@ agrees w offset n old new bytes h is fits there same e =
     ∙ sym (take-add offset w bytes)
 
 -- and the bytes behind stay
-pub stays : (w offset n : ℕ) (old new : List ℕ) → offset + w ≤ length old → new ≡ (take offset old ++ big_bytes w n) ++ drop (offset + w) old
+stays_at : (w offset n : ℕ) (old new : List ℕ) → offset + w ≤ length old → new ≡ (take offset old ++ big_bytes w n) ++ drop (offset + w) old
     → drop (offset + w) new ≡ drop (offset + w) old
-stays w offset n old new h is =
+stays_at w offset n old new h is =
     ap (drop (offset + w)) is ∙ drop_at (take offset old ++ big_bytes w n) (drop (offset + w) old) (offset + w) (front_size w offset n old h)
+
+pub drop_further : (k n : ℕ) (xs ys : List ℕ) → k ≤ n → drop k xs ≡ drop k ys → drop n xs ≡ drop n ys
+drop_further k n xs ys h e =
+    let split : k + (n - k) ≡ n = omega arith in
+    ap (λ m. drop m xs) (sym split) ∙ sym (drop-drop (n - k) k xs) ∙ ap (drop (n - k)) e ∙ drop-drop (n - k) k ys ∙ ap (λ m. drop m ys) split
+
+pub stays : (w offset n : ℕ) (old new : List ℕ) → offset + w ≤ length old → new ≡ (take offset old ++ big_bytes w n) ++ drop (offset + w) old
+    → (m : ℕ) → offset + w ≤ m → drop m new ≡ drop m old
+stays w offset n old new h is m k = drop_further (offset + w) m new old k (stays_at w offset n old new h is)
+
+-- a number that stands at the front, and one behind it
+pub number_here : (w n : ℕ) (back : List ℕ) → n < 256 ^ w → number_at 0 w (big_bytes w n ++ back) ≡ n
+unfolding number_at
+number_here w n back h = big_from-bytes w n back ∙ mod-eq_of_lt h
+
+pub number_next : (w n offset width : ℕ) (back : List ℕ) → number_at (w + offset) width (big_bytes w n ++ back) ≡ number_at offset width back
+number_next w n offset width back =
+    sym (number_at-drop (w + offset) width (big_bytes w n ++ back))
+    ∙ ap (big_from 0 width) (sym (drop-drop offset w (big_bytes w n ++ back)) ∙ ap (drop offset) (drop_at (big_bytes w n) back w (length-bytes_high_first w n)))
+    ∙ number_at-drop offset width back
+
+pub AreBytes-append : (xs ys : List ℕ) → AreBytes xs → AreBytes ys → AreBytes (xs ++ ys)
+AreBytes-append [] ys p q i = q i
+AreBytes-append (x ∷ xs) ys p q zero = p 0
+AreBytes-append (x ∷ xs) ys p q (suc i) = AreBytes-append xs ys (λ k. p (suc k)) q i
+
+pub number_fits : (w n : ℕ) (back : List ℕ) → AreBytes back → AreBytes (big_bytes w n ++ back)
+number_fits w n back fits = AreBytes-append (big_bytes w n) back (bytes_fit w n) fits

@@ -5,6 +5,7 @@ pub mod Head
 pub mod HeadLaws
 pub mod FrameFields
 pub mod FrameLaws
+pub mod FrameSpelling
 pub mod PrefixLaws
 pub mod Taking
 pub mod Record

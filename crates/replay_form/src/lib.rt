@@ -3,6 +3,7 @@
 
 mod event;
 mod frame_field;
+mod frame_spelling;
 mod head_field;
 mod head_rules;
 mod judge_head;
@@ -14,6 +15,7 @@ mod record_head;
 mod route_list;
 mod take;
 
+pub use crate::frame_spelling::encode_frame;
 pub use crate::event::{Event, RecordFault};
 pub use crate::reader::RecordReader;
 pub use crate::record_head::RecordHead;
