@@ -3,6 +3,7 @@ pub mod NumberLaws
 pub mod HeadFields
 pub mod Head
 pub mod HeadLaws
+pub mod HeadSpelling
 pub mod FrameFields
 pub mod FrameLaws
 pub mod FrameSpelling

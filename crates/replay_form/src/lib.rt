@@ -6,6 +6,7 @@ mod frame_field;
 mod frame_spelling;
 mod head_field;
 mod head_rules;
+mod head_spelling;
 mod judge_head;
 mod numbers;
 mod put;
