@@ -1,5 +1,5 @@
 -- The numbers of a header in the order of layout, as they are written.
-use Rattle.std.specs.Prelude.{◌≡◌, ℕ, ◌+◌, ◌*◌, ◌≤◌, ◌==◌, Bool, true, false, if◌then◌else◌, List, [], ◌∷◌, length, slice_index, ℤ}
+use Rattle.std.specs.Prelude.{◌≡◌, ℕ, ◌+◌, ◌*◌, ◌<◌, ◌≤◌, ◌==◌, Bool, true, false, if◌then◌else◌, List, [], ◌∷◌, length, slice_index, get_or, ℤ}
 use Rattle.std.specs.Int.{w64, cast_unsigned}
 use Rattle.vrt_words.specs.Words.{AreBytes}
 use Rattle.vrt_fields.specs.declared.limit.Limit.{Limit}
@@ -52,6 +52,9 @@ pub record IsLimitSpelled (limit : Limit) (bound : ℕ) (bytes : List ℕ) : Typ
   pub least_told : cast_unsigned w64 limit.least ≡ number_at (148 + 28 * bound) 8 bytes
   pub greatest_told : cast_unsigned w64 limit.greatest ≡ number_at (156 + 28 * bound) 8 bytes
 
+abbrev pub AreLimitsSpelled : List Limit → List ℕ → Type 0
+AreLimitsSpelled bounds bytes = (k : ℕ) (other : Limit) → k < 7 → IsLimitSpelled (get_or bounds k other) k bytes
+
 -- bytes with a route at its place
 pub record IsFirstRoute (route : Route) (place : ℕ) (bytes : List ℕ) : Type 0 where
   pub fit : AreBytes bytes
@@ -74,3 +77,6 @@ pub record IsSecondRoute (route : Route) (place : ℕ) (bytes : List ℕ) : Type
 abbrev pub IsRouteSpelled : Bool → Route → ℕ → List ℕ → Type 0
 IsRouteSpelled false route place bytes = IsFirstRoute route place bytes
 IsRouteSpelled true route place bytes = IsSecondRoute route place bytes
+
+abbrev pub AreRoutesSpelled : Bool → List Route → List ℕ → Type 0
+AreRoutesSpelled second routes bytes = (k : ℕ) (other : Route) → k < length routes → IsRouteSpelled second (get_or routes k other) k bytes

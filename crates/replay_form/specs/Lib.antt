@@ -4,6 +4,7 @@ pub mod HeadFields
 pub mod Head
 pub mod HeadLaws
 pub mod HeadSpelling
+pub mod HeadSpellingLaws
 pub mod FrameFields
 pub mod FrameLaws
 pub mod FrameSpelling

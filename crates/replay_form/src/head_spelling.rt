@@ -1,10 +1,11 @@
 ghost use Rattle.std.specs.Prelude.{◌≡◌, ◌+◌, ◌*◌, ◌≤◌, ◌<◌, ◌^◌, ℕ, List, length, take, drop, false, true};
 ghost use Rattle.vrt_words.specs.Words.{AreBytes};
-ghost use Rattle.replay_form.specs.HeadFields.{route_at};
-ghost use Rattle.replay_form.specs.HeadSpelling.{IsHeadStart, IsLimitSpelled, IsFirstRoute, IsSecondRoute, identity_form, identity_words, magic_of};
+ghost use Rattle.replay_form.specs.Head.{IsHead};
+ghost use Rattle.replay_form.specs.HeadFields.{route_at, route_size};
+ghost use Rattle.replay_form.specs.HeadSpelling.{IsHeadStart, IsLimitSpelled, AreLimitsSpelled, IsFirstRoute, IsSecondRoute, AreRoutesSpelled, identity_form, identity_words, magic_of, size_of_head};
 ghost use Rattle.replay_form.specs.Numbers.{AreNumbers};
 
-use crate::head_field::start_of_route;
+use crate::head_field::{FIXED_SIZE, size_of_route, start_of_route};
 use crate::head_rules::{FIRST_MAGIC, SECOND_MAGIC};
 use crate::put::{put_u16, put_u32, put_u64};
 use crate::record_head::RecordHead;
@@ -121,4 +122,81 @@ fn put_second_route(into: &mut [u8], place: u32, route: &Route)
     let offset = put_u16(into, offset, route.ports[2]);
     let offset = put_u16(into, offset, route.ports[3]);
     put_u16(into, offset, 0);
+}
+
+// All entries of the bounds.
+fn put_bounds(into: &mut [u8], bounds: &[Limit; 7])
+    requires { 332 ≤ length into.old }
+    ensures agrees { (bytes : List ℕ) → AreLimitsSpelled bounds.now bytes → take 136 into.old ≡ take 136 bytes → take 332 into.new ≡ take 332 bytes }
+    ensures stays { (n : ℕ) → 332 ≤ n → drop n into.new ≡ drop n into.old }
+{
+    for bound in 0..7 {
+        put_limit(into, bound, &bounds[bound]);
+    }
+}
+
+// All routes of a record of form 1.
+fn put_first_routes(into: &mut [u8], routes: &[Route])
+    requires few { length routes.now ≤ 256 }
+    requires there { 332 + 8 * length routes.now ≤ length into.old }
+    ensures agrees { (bytes : List ℕ) → AreRoutesSpelled false routes.now bytes → take 332 into.old ≡ take 332 bytes
+        → take (332 + 8 * length routes.now) into.new ≡ take (332 + 8 * length routes.now) bytes }
+    ensures stays { (n : ℕ) → 332 + 8 * length routes.now ≤ n → drop n into.new ≡ drop n into.old }
+{
+    for place in 0..routes.len() {
+        put_first_route(into, place as u32, &routes[place]);
+    }
+}
+
+// All routes of a record of form 2.
+fn put_second_routes(into: &mut [u8], routes: &[Route])
+    requires few { length routes.now ≤ 256 }
+    requires there { 332 + 16 * length routes.now ≤ length into.old }
+    ensures agrees { (bytes : List ℕ) → AreRoutesSpelled true routes.now bytes → take 332 into.old ≡ take 332 bytes
+        → take (332 + 16 * length routes.now) into.new ≡ take (332 + 16 * length routes.now) bytes }
+    ensures stays { (n : ℕ) → 332 + 16 * length routes.now ≤ n → drop n into.new ≡ drop n into.old }
+{
+    for place in 0..routes.len() {
+        put_second_route(into, place as u32, &routes[place]);
+    }
+}
+
+// All routes.
+fn put_routes(into: &mut [u8], second: bool, routes: &[Route])
+    requires few { length routes.now ≤ 256 }
+    requires there { 332 + route_size second * length routes.now ≤ length into.old }
+    ensures agrees { (bytes : List ℕ) → AreRoutesSpelled second routes.now bytes → take 332 into.old ≡ take 332 bytes
+        → take (332 + route_size second * length routes.now) into.new ≡ take (332 + route_size second * length routes.now) bytes }
+    ensures stays { (n : ℕ) → 332 + route_size second * length routes.now ≤ n → drop n into.new ≡ drop n into.old }
+{
+    if second {
+        put_second_routes(into, routes);
+    } else {
+        put_first_routes(into, routes);
+    }
+}
+
+/// Writes a header at the front of `into`, in the form that it names, and answers the number of its
+/// bytes: 332, and 8 or 16 for each route. All other bytes stay.
+///
+/// The header is one that bytes can spell. Reading it again gives the same, and writing what was read
+/// gives the same bytes.
+pub fn encode_head(head: &RecordHead, into: &mut [u8]) -> usize
+    requires spelled { (bytes : List ℕ) × (AreBytes bytes × IsHead head.now bytes) }
+    requires room { size_of_head head.now ≤ length into.old }
+    ensures length { result ≡ size_of_head head.now }
+    ensures head { IsHead head.now (take result into.new) }
+    ensures again { (bytes : List ℕ) → AreBytes bytes → IsHead head.now bytes → take result into.new ≡ bytes }
+    ensures behind { drop result into.new ≡ drop result into.old }
+{
+    let second = head.form == 2;
+    let routes = head.routes.as_slice();
+    let words = words_of(&head.identity);
+    put_profile(head, into);
+    put_limits(head, into);
+    put_words(into, 44, &words);
+    put_words(into, 60, &head.initial);
+    put_bounds(into, &head.bounds);
+    put_routes(into, second, routes);
+    FIXED_SIZE + size_of_route(second) * routes.len()
 }

@@ -17,6 +17,7 @@ mod route_list;
 mod take;
 
 pub use crate::frame_spelling::encode_frame;
+pub use crate::head_spelling::encode_head;
 pub use crate::event::{Event, RecordFault};
 pub use crate::reader::RecordReader;
 pub use crate::record_head::RecordHead;
