@@ -164,3 +164,8 @@ unfinished None reading taken frames offset ends (inr g) =
 pub unfinished_record : (reading : Reading) (taken : List ℕ) (frames : List Frame) (offset : ℕ) → IsUnfinished reading.fault reading offset
     → StandsFor reading taken frames → IsRecordWrongAt frames taken offset ⊎ (EndsInside taken × (offset ≡ length taken))
 unfinished_record reading taken frames offset ends stands = unfinished reading.fault reading taken frames offset ends stands
+
+-- without a fault, the number of all bytes is known
+pub stands_size : (reading : Reading) (taken : List ℕ) (frames : List Frame) → reading.fault ≡ None → StandsFor reading taken frames
+    → reading.start + length (begun reading) ≡ length taken
+stands_size reading taken frames sound stands = elim (sound_stands reading taken frames sound stands) [ inl b ↦ b.start | inr g ↦ g.start ]

@@ -93,6 +93,8 @@ impl RecordReader {
         ensures fails { OnErr result ((taken : List ℕ) (frames : List Frame) → StandsFor self.old taken frames
             → StandsFor self.new (taken ++ piece.now) frames) }
 
+        ensures progress { IfOk result (λ step. 0 < length piece.now → 0 < step.0) }
+
         // The same, by what the reader knows.
         ensures step { IfOk result (λ step. IsStep self.old piece.now step.0 step.1 self.new) }
         ensures wrong { IfErr result (λ fault. IsFailed self.old.fault self.old piece.now fault.offset self.new) }
@@ -158,6 +160,7 @@ impl RecordReader {
     fn advance(&mut self, piece: &[u8]) -> Result<(usize, Event), RecordFault>
         requires { self.old.fault ≡ None → self.old.start + length (begun self.old) + length piece.now < 2 ^ 63 }
         ensures step { IfOk result (λ step. IsStep self.old piece.now step.0 step.1 self.new) }
+        ensures progress { IfOk result (λ step. 0 < length piece.now → 0 < step.0) }
         ensures wrong { IfErr result (λ fault. IsFailed self.old.fault self.old piece.now fault.offset self.new) }
         ensures idle { OnErr result (self.new.whole ≡ false) }
     {
@@ -188,6 +191,7 @@ impl RecordReader {
         requires first { self.old.started ≡ false }
         requires small { self.old.start + length (begun self.old) + length piece.now < 2 ^ 63 }
         ensures step { IfOk result (λ step. IsStep self.old piece.now step.0 step.1 self.new) }
+        ensures progress { IfOk result (λ step. 0 < length piece.now → 0 < step.0) }
         ensures wrong { IfErr result (λ fault. IsNewFault self.old piece.now fault.offset self.new) }
     {
         match take_head(&mut self.held, self.judged, piece) {
@@ -221,6 +225,7 @@ impl RecordReader {
         requires idle { self.old.whole ≡ false }
         requires small { self.old.start + length (begun self.old) + length piece.now < 2 ^ 63 }
         ensures step { IfOk result (λ step. IsStep self.old piece.now step.0 step.1 self.new) }
+        ensures progress { IfOk result (λ step. 0 < length piece.now → 0 < step.0) }
         ensures wrong { IfErr result (λ fault. IsNewFault self.old piece.now fault.offset self.new) }
     {
         match take_frame(&mut self.held, self.last, piece) {

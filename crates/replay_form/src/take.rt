@@ -1,6 +1,6 @@
 ghost use Rattle.std.specs.Prelude.{◌≡◌, ◌+◌, ◌*◌, ◌<◌, ◌≤◌, ◌^◌, ◌++◌, true, false, length, take, drop, vec_len, vec_capacity, IfOk, IfErr};
 ghost use Rattle.replay_form.specs.HeadFields.{IsHeadOpen, IsWholeHead, IsHeadWrongAt, head_size};
-ghost use Rattle.replay_form.specs.Taking.{IsHeadTaken, IsHeadBegun, IsFrameTaken, IsFrameBegun};
+ghost use Rattle.replay_form.specs.Taking.{IsHeadTaken, IsHeadBegun, TakesSome, IsFrameTaken, IsFrameBegun, FrameTakesSome};
 ghost use Rattle.replay_form.specs.FrameFields.{IsFramePart, IsWholeFrame, IsFrameWrongAt};
 
 use crate::frame_field::{FRAME_HEAD, judge_frame, size_of_frame};
@@ -64,6 +64,7 @@ pub(crate) fn take_head(
     requires begun { IsHeadOpen held.old.items judged }
     requires room { 65555 ≤ vec_capacity held.old }
     ensures taken { IfOk result (λ taken. IsHeadTaken held.old.items piece.now taken held.new.items) }
+    ensures progress { IfOk result TakesSome }
     ensures wrong { IfErr result (λ offset. IsHeadWrongAt (held.old.items ++ piece.now) offset) }
     ensures capacity { vec_capacity held.old ≤ vec_capacity held.new }
 {
@@ -113,6 +114,7 @@ pub(crate) fn take_frame(
     requires begun { IsFramePart last held.old.items }
     requires room { 65555 ≤ vec_capacity held.old }
     ensures taken { IfOk result (λ taken. IsFrameTaken last held.old.items piece.now taken held.new.items) }
+    ensures progress { IfOk result FrameTakesSome }
     ensures wrong { IfErr result (λ offset. IsFrameWrongAt last (held.old.items ++ piece.now) offset) }
     ensures capacity { vec_capacity held.old ≤ vec_capacity held.new }
 {
