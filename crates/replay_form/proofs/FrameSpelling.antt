@@ -28,9 +28,19 @@ frame_head frame stamp port size fit =
     let p = big_bytes 2 frame.port ++ z in
     let q = big_bytes 8 frame.stamp.picos ++ p in record {
       fit = number_fits 4 frame.stamp.seconds q (number_fits 8 frame.stamp.picos p (number_fits 2 frame.port z (number_fits 2 0 e (number_fits 4 (length d) d fit))));
-      there = omega (arith, length-append (big_bytes 4 frame.stamp.seconds) q, length-append (big_bytes 8 frame.stamp.picos) p, length-append (big_bytes 2 frame.port) z,
-          length-append (big_bytes 2 0) e, length-append (big_bytes 4 (length d)) d, length-bytes_high_first 4 frame.stamp.seconds,
-          length-bytes_high_first 8 frame.stamp.picos, length-bytes_high_first 2 frame.port, length-bytes_high_first 2 0, length-bytes_high_first 4 (length d));
+      there = omega (
+        arith,
+        length-append (big_bytes 4 frame.stamp.seconds) q,
+        length-append (big_bytes 8 frame.stamp.picos) p,
+        length-append (big_bytes 2 frame.port) z,
+        length-append (big_bytes 2 0) e,
+        length-append (big_bytes 4 (length d)) d,
+        length-bytes_high_first 4 frame.stamp.seconds,
+        length-bytes_high_first 8 frame.stamp.picos,
+        length-bytes_high_first 2 frame.port,
+        length-bytes_high_first 2 0,
+        length-bytes_high_first 4 (length d),
+      );
       seconds = sym (number_here 4 frame.stamp.seconds q (omega (arith, stamp.seconds_fit)));
       picos = sym (number_next 4 frame.stamp.seconds 0 8 q ∙ number_here 8 frame.stamp.picos p (omega (arith, stamp.picos_below)));
       port_told = sym (number_next 4 frame.stamp.seconds 8 2 q ∙ number_next 8 frame.stamp.picos 0 2 p ∙ number_here 2 frame.port z (omega arith));

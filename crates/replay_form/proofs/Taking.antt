@@ -108,11 +108,11 @@ begins old piece new n before judged e open_ short none there fields = record {
     | inl same ↦ (let k = short (omega arith) in omega arith)
     | inr (inl less) ↦ (let k = short (omega arith) in omega arith)
     | inr (inr more) ↦ (
-      let zero_ : n ≡ 0 = none (omega arith) in
-      let stays : new ≡ old = e ∙ ap (λ k. old ++ take k piece) zero_ ∙ append-nil old in
-      let h : length old ≤ head_size old = (let k = open_short old before open_ in omega arith) in
-      subst (λ xs. length xs ≤ head_size xs) (sym stays) h
-    )
+        let zero_ : n ≡ 0 = none (omega arith) in
+        let stays : new ≡ old = e ∙ ap (λ k. old ++ take k piece) zero_ ∙ append-nil old in
+        let h : length old ≤ head_size old = (let k = open_short old before open_ in omega arith) in
+        subst (λ xs. length xs ≤ head_size xs) (sym stays) h
+        )
   ];
   fields = fields;
 }

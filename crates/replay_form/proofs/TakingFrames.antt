@@ -80,11 +80,11 @@ frame_begins last old piece new n judged e part short none there fields = record
     | inl same ↦ (let k = short (omega arith) in omega arith)
     | inr (inl less) ↦ (let k = short (omega arith) in omega arith)
     | inr (inr more) ↦ (
-      let zero_ : n ≡ 0 = none (omega arith) in
-      let stays : new ≡ old = e ∙ ap (λ k. old ++ take k piece) zero_ ∙ append-nil old in
-      let h : length old ≤ frame_size old = (let k = frame_short last old part in omega arith) in
-      subst (λ xs. length xs ≤ frame_size xs) (sym stays) h
-    )
+        let zero_ : n ≡ 0 = none (omega arith) in
+        let stays : new ≡ old = e ∙ ap (λ k. old ++ take k piece) zero_ ∙ append-nil old in
+        let h : length old ≤ frame_size old = (let k = frame_short last old part in omega arith) in
+        subst (λ xs. length xs ≤ frame_size xs) (sym stays) h
+        )
   ];
   right = frame_right last new judged fields there;
 }

@@ -163,11 +163,11 @@ route_here second (suc n) bytes k other h =
     let size = length-routes_in second n bytes in
     elim (cases_order k n) [
       | inl e ↦ (
-        let first : k - n ≡ 0 = omega arith in
-        get_or-append_right (routes_in second n bytes) (route_in second n bytes ∷ []) n k other size (omega arith)
-        ∙ ap (λ i. get_or (route_in second n bytes ∷ []) i other) first
-        ∙ ap (λ i. route_in second i bytes) (sym e)
-      )
+          let first : k - n ≡ 0 = omega arith in
+          get_or-append_right (routes_in second n bytes) (route_in second n bytes ∷ []) n k other size (omega arith)
+          ∙ ap (λ i. get_or (route_in second n bytes ∷ []) i other) first
+          ∙ ap (λ i. route_in second i bytes) (sym e)
+          )
       | inr (inl less) ↦ get_or_append_left (routes_in second n bytes) (route_in second n bytes ∷ []) other k (omega arith) ∙ route_here second n bytes k other less
       | inr (inr more) ↦ absurd (omega arith)
     ]

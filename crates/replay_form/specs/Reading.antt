@@ -82,7 +82,7 @@ pub record IsFrameRead (old : Reading) (piece : List ℕ) (count : ℕ) (new : R
     last = (frame_in (begun old ++ take count piece)).stamp;
     start = old.start + length (begun old ++ take count piece);
     whole = true;
-    held = begun old ++ take count piece
+    held = begun old ++ take count piece;
   }
 
 abbrev pub IsStep : Reading → List ℕ → ℕ → Event → Reading → Type 0

@@ -114,16 +114,16 @@ failed None old piece offset new taken frames was fails stands =
     elim stands [
       | inl b ↦ inl (b.none, subst (λ xs. IsHeadWrongAt xs offset) (ap (λ xs. xs ++ piece) (sym b.bytes)) (fails.in_head b.started))
       | inr g ↦ (
-        let f = fails.in_frame g.started in
-        inr (record {
-          head = old.head;
-          rest = begun old ++ piece;
-          cut = cut-append old.head frames (begun old) taken piece g.so_far.cut;
-          place = f.0;
-          frame = subst (λ last. IsFrameWrongAt last (begun old ++ piece) f.0) g.last f.1.0;
-          told = omega (arith, f.1.1, g.start, length-append (begun old) piece, length-append taken piece);
-        })
-      )
+          let f = fails.in_frame g.started in
+          inr (record {
+            head = old.head;
+            rest = begun old ++ piece;
+            cut = cut-append old.head frames (begun old) taken piece g.so_far.cut;
+            place = f.0;
+            frame = subst (λ last. IsFrameWrongAt last (begun old ++ piece) f.0) g.last f.1.0;
+            told = omega (arith, f.1.1, g.start, length-append (begun old) piece, length-append taken piece);
+          })
+          )
     ] in
     subst (λ f. StandsWith f new (taken ++ piece) frames) (sym fails.fault) wrong
 
@@ -169,3 +169,9 @@ unfinished_record reading taken frames offset ends stands = unfinished reading.f
 pub stands_size : (reading : Reading) (taken : List ℕ) (frames : List Frame) → reading.fault ≡ None → StandsFor reading taken frames
     → reading.start + length (begun reading) ≡ length taken
 stands_size reading taken frames sound stands = elim (sound_stands reading taken frames sound stands) [ inl b ↦ b.start | inr g ↦ g.start ]
+
+-- a call that gives an event leaves no fault
+pub step_sound : (old : Reading) (piece : List ℕ) (count : ℕ) (event : Event) (new : Reading) → IsStep old piece count event new → new.fault ≡ None
+step_sound old piece count events.More new step = ap (λ (r : Reading). r.fault) step.after ∙ step.sound
+step_sound old piece count events.Head new step = ap (λ (r : Reading). r.fault) step.after
+step_sound old piece count events.Frame new step = ap (λ (r : Reading). r.fault) step.after ∙ step.sound

@@ -16,10 +16,12 @@ mod reader;
 mod record_head;
 mod route_list;
 mod take;
+#[cfg(test)]
+mod tests;
 
+pub use crate::event::{Event, RecordFault};
 pub use crate::frame_spelling::encode_frame;
 pub use crate::head_spelling::encode_head;
-pub use crate::event::{Event, RecordFault};
 pub use crate::migrate::migrate_head;
 pub use crate::reader::RecordReader;
 pub use crate::record_head::RecordHead;

@@ -56,11 +56,7 @@ fn take_up_to(held: &mut Vec<u8>, piece: &[u8], size: usize) -> usize
 
 /// Takes bytes of the piece until a header is whole, and judges each field as soon as it is there.
 /// `Err` has the offset of the first field that is wrong, in the header.
-pub(crate) fn take_head(
-    held: &mut Vec<u8>,
-    judged: usize,
-    piece: &[u8],
-) -> Result<HeadTaken, usize>
+pub(crate) fn take_head(held: &mut Vec<u8>, judged: usize, piece: &[u8]) -> Result<HeadTaken, usize>
     requires begun { IsHeadOpen held.old.items judged }
     requires room { 65555 ≤ vec_capacity held.old }
     ensures taken { IfOk result (λ taken. IsHeadTaken held.old.items piece.now taken held.new.items) }
@@ -106,11 +102,7 @@ fn take_routes(held: &mut Vec<u8>, judged: usize, piece: &[u8]) -> Result<HeadTa
 
 /// Takes bytes of the piece until a frame is whole, and judges each field as soon as it is there.
 /// `Err` has the offset of the first field that is wrong, in the frame.
-pub(crate) fn take_frame(
-    held: &mut Vec<u8>,
-    last: Stamp,
-    piece: &[u8],
-) -> Result<FrameTaken, usize>
+pub(crate) fn take_frame(held: &mut Vec<u8>, last: Stamp, piece: &[u8]) -> Result<FrameTaken, usize>
     requires begun { IsFramePart last held.old.items }
     requires room { 65555 ≤ vec_capacity held.old }
     ensures taken { IfOk result (λ taken. IsFrameTaken last held.old.items piece.now taken held.new.items) }

@@ -12,7 +12,7 @@ returns-clause-again c = λ last spelled fit is.
     let d = c.args.bytes.now in
     let frame : Frame = record { stamp = c.args.moment; port = c.args.port; datagram = d } in
     written (length d) d c.put_frame_head.new.into c.copy_from_slice.new.self spelled (omega arith) c.copy_from_slice.ensures.after (omega arith)
-        (c.put_frame_head.ensures.agrees spelled (spelled_head last frame spelled fit is)) (sym (ap (λ (f : Frame). f.datagram) is.told))
+    (c.put_frame_head.ensures.agrees spelled (spelled_head last frame spelled fit is)) (sym (ap (λ (f : Frame). f.datagram) is.told))
 
 pub returns-clause-frame : goal.returns-clause-frame
 returns-clause-frame c = λ last later.
@@ -27,4 +27,4 @@ returns-clause-frame c = λ last later.
 pub returns-clause-behind : goal.returns-clause-behind
 returns-clause-behind c =
     behind_frame (length c.args.bytes.now) c.put_frame_head.new.into c.copy_from_slice.new.self c.args.into.now (sym (ap length c.copy_from_slice.ensures.after)) (omega arith)
-        c.put_frame_head.ensures.stays
+    c.put_frame_head.ensures.stays

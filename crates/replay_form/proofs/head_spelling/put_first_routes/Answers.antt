@@ -6,9 +6,9 @@ use Rattle.replay_form.proofs.head_spelling.put_first_routes.Goals as goal
 pub loop-place-preserved : goal.loop-place-preserved
 loop-place-preserved c = record {
   agrees = λ bytes spelled same.
-    let next : 332 + 8 * c.loop-place.place + 8 ≡ 332 + 8 * (c.loop-place.place + 1) = omega arith in
-    subst (λ n. take n c.put_first_route.new.into ≡ take n bytes) next
-    (c.put_first_route.ensures.agrees bytes (spelled c.loop-place.place _ c.loop-place-test.true) (c.loop-place.invariant.agrees bytes spelled same));
+      let next : 332 + 8 * c.loop-place.place + 8 ≡ 332 + 8 * (c.loop-place.place + 1) = omega arith in
+      subst (λ n. take n c.put_first_route.new.into ≡ take n bytes) next
+      (c.put_first_route.ensures.agrees bytes (spelled c.loop-place.place _ c.loop-place-test.true) (c.loop-place.invariant.agrees bytes spelled same));
   stays = λ n h. c.put_first_route.ensures.stays n (omega arith) ∙ c.loop-place.invariant.stays n (omega arith);
 }
 

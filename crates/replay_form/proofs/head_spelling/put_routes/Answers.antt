@@ -8,7 +8,7 @@ use Rattle.replay_form.proofs.head_spelling.put_routes.Goals as goal
 abbrev Agrees : List Route → List ℕ → List ℕ → Bool → Type 0
 Agrees routes old new second =
     (bytes : List ℕ) → AreRoutesSpelled second routes bytes → take 332 old ≡ take 332 bytes
-        → take (332 + route_size second * length routes) new ≡ take (332 + route_size second * length routes) bytes
+    → take (332 + route_size second * length routes) new ≡ take (332 + route_size second * length routes) bytes
 
 pub returns-then-second-clause-agrees : goal.returns-then-second-clause-agrees
 returns-then-second-clause-agrees c =
