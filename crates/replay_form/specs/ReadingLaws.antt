@@ -175,3 +175,9 @@ pub step_sound : (old : Reading) (piece : List ℕ) (count : ℕ) (event : Event
 step_sound old piece count events.More new step = ap (λ (r : Reading). r.fault) step.after ∙ step.sound
 step_sound old piece count events.Head new step = ap (λ (r : Reading). r.fault) step.after
 step_sound old piece count events.Frame new step = ap (λ (r : Reading). r.fault) step.after ∙ step.sound
+
+-- and takes no more bytes than there are
+pub step_few : (old : Reading) (piece : List ℕ) (count : ℕ) (event : Event) (new : Reading) → IsStep old piece count event new → count ≤ length piece
+step_few old piece count events.More new step = (let e = step.all in omega arith)
+step_few old piece count events.Head new step = step.few
+step_few old piece count events.Frame new step = step.few

@@ -1,4 +1,5 @@
-ghost use Rattle.std.specs.Prelude.{◌≡◌, ◌+◌, ◌*◌, ◌<◌, ◌≤◌, ◌^◌, ◌++◌, ◌↔◌, ◌⊎◌, ℕ, List, [], None, false, true, length, take, MatchOption, IfOk, OnOk, IfErr, OnErr};
+ghost use Rattle.std.specs.Prelude.{◌≡◌, ◌+◌, ◌*◌, ◌<◌, ◌≤◌, ◌^◌, ◌++◌, ◌↔◌, ◌⊎◌, ℕ, List, [], None, false, true, length, take, MatchOption, IfSome, IfOk, OnOk, IfErr, OnErr};
+ghost use Rattle.replay_form.specs.Head.{IsSpelledHead};
 ghost use Rattle.replay_form.specs.FrameFields.{Frame, IsWholeFrame};
 ghost use Rattle.replay_form.specs.Numbers.{number_at};
 ghost use Rattle.replay_form.specs.Reading.{StandsFor, IsFresh, IsStep, IsFailed, IsNewFault, IsFinished, IsUnfinished, begun, frames_after, held_frame};
@@ -93,6 +94,7 @@ impl RecordReader {
         ensures fails { OnErr result ((taken : List ℕ) (frames : List Frame) → StandsFor self.old taken frames
             → StandsFor self.new (taken ++ piece.now) frames) }
 
+        ensures few { IfOk result (λ step. step.0 ≤ length piece.now) }
         ensures progress { IfOk result (λ step. 0 < length piece.now → 0 < step.0) }
 
         // The same, by what the reader knows.
@@ -105,7 +107,8 @@ impl RecordReader {
 
     /// The header, once it is whole.
     pub fn head(&self) -> Option<&RecordHead>
-        ensures { MatchOption result (self.now.started ≡ false) (λ head. (self.now.started ≡ true) × (head.now ≡ self.now.head)) }
+        ensures head { MatchOption result (self.now.started ≡ false) (λ head. (self.now.started ≡ true) × (head.now ≡ self.now.head)) }
+        ensures spelled { IfSome result (λ head. IsSpelledHead head.now) }
     {
         if self.started { Some(&self.head) } else { None }
     }

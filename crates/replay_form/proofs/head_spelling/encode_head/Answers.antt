@@ -9,11 +9,11 @@ use Rattle.replay_form.specs.HeadSpellingLaws.{head_start, head_form, identity_s
 use Rattle.replay_form.proofs.head_spelling.encode_head.Goals as goal
 
 pub put_limits-requires-clause-few : goal.put_limits-requires-clause-few
-put_limits-requires-clause-few c = few_routes c.args.head.now c.requires.spelled.0 c.requires.spelled.1.1
+put_limits-requires-clause-few c = few_routes c.args.head.now c.requires.spelled.bytes c.requires.spelled.says
 
 pub put_routes-requires-clause-few : goal.put_routes-requires-clause-few
 put_routes-requires-clause-few c =
-    subst (λ routes. length routes ≤ 256) (sym c.as_slice-routes.ensures) (few_routes c.args.head.now c.requires.spelled.0 c.requires.spelled.1.1)
+    subst (λ routes. length routes ≤ 256) (sym c.as_slice-routes.ensures) (few_routes c.args.head.now c.requires.spelled.bytes c.requires.spelled.says)
 
 pub returns-clause-again : goal.returns-clause-again
 returns-clause-again c = λ bytes fit is.
@@ -45,7 +45,7 @@ returns-clause-again c = λ bytes fit is.
 pub returns-clause-head : goal.returns-clause-head
 returns-clause-head c =
     let s = c.requires.spelled in
-    subst (IsHead c.args.head.now) (sym (returns-clause-again c s.0 s.1.0 s.1.1)) s.1.1
+    subst (IsHead c.args.head.now) (sym (returns-clause-again c s.bytes s.fit s.says)) s.says
 
 pub returns-clause-behind : goal.returns-clause-behind
 returns-clause-behind c =
@@ -53,8 +53,8 @@ returns-clause-behind c =
     let n = 332 + c.size_of_route.result * length routes in
     let same : 332 + c.size_of_route.result * length routes ≡ 332 + route_size (c.args.head.now.form == 2) * length routes = ap (λ k. 332 + k * length routes) c.size_of_route.ensures in
     let s = c.requires.spelled in
-    let is = s.1.1 in
-    let words = subst (λ x. AreNumbers x 44 4 s.0) (sym c.words_of-words.ensures) (identity_spelled c.args.head.now.identity s.0 is.whole is.identity) in
+    let is = s.says in
+    let words = subst (λ x. AreNumbers x 44 4 s.bytes) (sym c.words_of-words.ensures) (identity_spelled c.args.head.now.identity s.bytes is.whole is.identity) in
     let four : length c.words_of-words.result ≡ 4 = words.all in
     let nineteen : length c.args.head.now.initial ≡ 19 = is.initial.all in
     c.put_routes.ensures.stays n (omega arith) ∙ c.put_bounds.ensures.stays n (omega arith) ∙ c.put_words-2.ensures.stays n (omega arith)
