@@ -147,8 +147,8 @@ impl RecordReader {
         ensures finished { OnOk result (IsFinished self.now) }
         ensures unfinished { IfErr result (λ fault. IsUnfinished self.now.fault self.now fault.offset) }
     {
-        if let Some(fault) = self.fault {
-            return Err(fault);
+        if let Some(standing) = self.fault {
+            return Err(standing);
         }
         let begun = if self.whole { 0 } else { self.held.len() };
         if self.started && begun == 0 {

@@ -147,6 +147,16 @@ fn routed() -> [u8; 340] {
     bytes
 }
 
+// The same in form 2.
+fn second_form() -> [u8; 348] {
+    let mut bytes = [0; 348];
+    put_words(&mut bytes, 0, &HEADER);
+    put_words(&mut bytes, 1, &[0x5245_4332]);
+    put_words(&mut bytes, 9, &[1]);
+    put_words(&mut bytes, 83, &[1, 0x0001_0009, 0, 0]);
+    bytes
+}
+
 // The number of frames and the verdict, where the bytes come in pieces of this size.
 fn verdict(
     alloc: Global,
@@ -188,11 +198,16 @@ fn changed(at: usize, byte: u8) -> [u8; 332] {
     bytes
 }
 
-// The first 100 bytes of the header.
-fn cut() -> [u8; 100] {
-    let mut bytes = [0; 100];
-    bytes.copy_from_slice(&header()[..100]);
-    bytes
+// The verdict on the first bytes alone.
+fn front_verdict(
+    alloc: Global,
+    bytes: &[u8],
+    len: usize,
+) -> Result<(u64, Result<(), RecordFault>), NoMemory>
+    requires within { len ≤ length bytes.now }
+    requires small { length bytes.now < 2 ^ 32 }
+{
+    verdict(alloc, &bytes[..len], 4_096)
 }
 
 // A header with one route and two frames, the second of which came at this second.
@@ -226,7 +241,7 @@ fn a_fault_has_the_offset_of_its_field(rt: HostRuntime) -> Result<(), Fail> {
     // A magic of another form, a timestamp code of 4, a cut header, and nothing.
     assert!(rt; whole_verdict(alloc, &changed(7, b'3')).ok() == Some((0, bad(0))));
     assert!(rt; whole_verdict(alloc, &changed(15, 4)).ok() == Some((0, bad(12))));
-    assert!(rt; whole_verdict(alloc, &cut()).ok() == Some((0, bad(100))));
+    assert!(rt; front_verdict(alloc, &header(), 100).ok() == Some((0, bad(100))));
     assert!(rt; whole_verdict(alloc, &[]).ok() == Some((0, bad(0))));
     assert!(rt; whole_verdict(alloc, b"DIFIREC2").ok() == Some((0, bad(8))));
     // A second frame that came before the first.
@@ -305,13 +320,31 @@ fn each_field_of_a_route_is_judged(rt: HostRuntime) -> Result<(), Fail> {
     Ok(())
 }
 
-#[test]
-fn a_header_is_read_written_and_migrated(rt: HostRuntime) -> Result<(), Fail> {
-    let alloc = rt.alloc();
-    let bytes = routed();
+// The bytes of the header that these bytes are, written again into as many bytes and one more, where
+// it has one route.
+fn written(alloc: Global, bytes: &[u8]) -> Result<[u8; 349], Fail>
+    requires { length bytes.now < 2 ^ 32 }
+{
     let mut reader = RecordReader::open(alloc)?;
+    let Ok((_, Event::Head)) = reader.feed(bytes) else {
+        return Err(Fail::from("no header"));
+    };
+    let Some(head) = reader.head() else {
+        return Err(Fail::from("no header"));
+    };
+    let mut again = [7; 349];
+    if head.routes.as_slice().len() != 1 {
+        return Err(Fail::from("routes"));
+    }
+    encode_head(head, &mut again);
+    Ok(again)
+}
+
+#[test]
+fn a_header_is_read(rt: HostRuntime) -> Result<(), Fail> {
+    let mut reader = RecordReader::open(rt.alloc())?;
     assert!(rt; reader.head().is_none());
-    assert!(rt; reader.feed(&bytes) == Ok((340, Event::Head)));
+    assert!(rt; reader.feed(&routed()) == Ok((340, Event::Head)));
     let head = reader.head().ok_or("no header")?;
     assert_eq!(rt; head.form, 1);
     assert_eq!(rt; head.profile.cid(), 0x006A_621E);
@@ -336,10 +369,40 @@ fn a_header_is_read_written_and_migrated(rt: HostRuntime) -> Result<(), Fail> {
         number: 1,
     };
     assert!(rt; head.routes.as_slice() == [route].as_slice());
-    let mut again = [7; 341];
-    assert_eq!(rt; encode_head(head, &mut again), 340);
-    assert!(rt; again[..340] == bytes[..]);
+    Ok(())
+}
+
+#[test]
+fn a_header_is_written_as_it_was_read(rt: HostRuntime) -> Result<(), Fail> {
+    let alloc = rt.alloc();
+    let first = routed();
+    let again = written(alloc, &first)?;
+    assert!(rt; again.starts_with(&first));
     assert_eq!(rt; again[340], 7);
+    let second = second_form();
+    let again = written(alloc, &second)?;
+    assert!(rt; again.starts_with(&second));
+    assert_eq!(rt; again[348], 7);
+    Ok(())
+}
+
+#[test]
+fn a_migrated_header_has_form_2(rt: HostRuntime) -> Result<(), Fail> {
+    let alloc = rt.alloc();
+    let mut first = RecordReader::open(alloc)?;
+    let mut second = RecordReader::open(alloc)?;
+    assert!(rt; first.feed(&routed()) == Ok((340, Event::Head)));
+    assert!(rt; second.feed(&second_form()) == Ok((348, Event::Head)));
+    let migrated = migrate_head(alloc, first.head().ok_or("no header")?)?;
+    let wanted = second.head().ok_or("no header")?;
+    assert_eq!(rt; migrated.form, wanted.form);
+    assert!(rt; migrated.profile == wanted.profile);
+    assert_eq!(rt; migrated.max_words, wanted.max_words);
+    assert!(rt; migrated.limits == wanted.limits);
+    assert!(rt; migrated.identity == wanted.identity);
+    assert!(rt; migrated.initial == wanted.initial);
+    assert!(rt; migrated.bounds == wanted.bounds);
+    assert!(rt; migrated.routes.as_slice() == wanted.routes.as_slice());
     Ok(())
 }
 
@@ -353,7 +416,9 @@ fn a_frame_is_written_and_read(rt: HostRuntime) -> Result<(), Fail> {
     assert!(rt; reader.feed(&routed()) == Ok((340, Event::Head)));
     assert!(rt; reader.finish() == Ok(()));
     assert!(rt; reader.feed(&bytes) == Ok((23, Event::Frame)));
-    let (stamp, port, datagram) = reader.frame().ok_or("no frame")?;
+    let Some((stamp, port, datagram)) = reader.frame() else {
+        return Err(Fail::from("no frame"));
+    };
     assert!(rt; stamp == moment);
     assert_eq!(rt; port, 5);
     assert!(rt; datagram == b"abc".as_slice());
