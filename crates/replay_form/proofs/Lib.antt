@@ -1,3 +1,5 @@
 pub mod Fields
 pub mod Taking
 pub mod TakingFrames
+pub mod Putting
+pub mod FrameSpelling

@@ -1,5 +1,5 @@
 -- How far a header has come, by its bytes and by its fields.
-use Rattle.std.proofs.Common.{◌≡◌, ℕ, ◌+◌, ◌*◌, ◌<◌, ◌≤◌, inl, inr, Bool, true, false, List, ◌++◌, length, take, drop, refl, sym, ap, ◌∙◌, subst, length-append, append_assoc, take-append-drop, take_all, take-add, append-nil, arith}
+use Rattle.std.proofs.Common.{◌≡◌, ℕ, zero, suc, ◌+◌, ◌*◌, ◌<◌, ◌≤◌, inl, inr, Bool, true, false, List, ◌++◌, length, take, drop, refl, sym, ap, ◌∙◌, subst, length-append, append_assoc, take-append-drop, take_all, take-add, append-nil, arith}
 use Rattle.std.proofs.lemmas.Bool.{cases_order}
 use Rattle.std.proofs.lemmas.List.{length-drop}
 use Rattle.replay_form.specs.Numbers.{number_at}
@@ -108,11 +108,11 @@ begins old piece new n before judged e open_ short none there fields = record {
     | inl same ↦ (let k = short (omega arith) in omega arith)
     | inr (inl less) ↦ (let k = short (omega arith) in omega arith)
     | inr (inr more) ↦ (
-      let zero_ : n ≡ 0 = none (omega arith) in
-      let stays : new ≡ old = e ∙ ap (λ k. old ++ take k piece) zero_ ∙ append-nil old in
-      let h : length old ≤ head_size old = (let k = open_short old before open_ in omega arith) in
-      subst (λ xs. length xs ≤ head_size xs) (sym stays) h
-    )
+        let zero_ : n ≡ 0 = none (omega arith) in
+        let stays : new ≡ old = e ∙ ap (λ k. old ++ take k piece) zero_ ∙ append-nil old in
+        let h : length old ≤ head_size old = (let k = open_short old before open_ in omega arith) in
+        subst (λ xs. length xs ≤ head_size xs) (sym stays) h
+        )
   ];
   fields = fields;
 }
@@ -143,3 +143,12 @@ whole_of_rest old piece rest mid new n count h e f taken = record {
   held = two_parts old piece mid new n count e (taken.held ∙ ap (λ xs. mid ++ take count xs) f);
   whole = taken.whole;
 }
+
+-- an open header is not whole yet
+pub head_takes_some : (old piece new : List ℕ) (count judged : ℕ) → IsHeadOpen old judged → IsHeadWhole old piece new count → 0 < count
+head_takes_some old piece new zero judged open_ whole =
+    let same : new ≡ old = whole.held ∙ append-nil old in
+    let short = open_short old judged open_ in
+    let long : length old ≡ head_size old = subst (λ xs. length xs ≡ head_size xs) same whole.whole.all in
+    absurd (omega arith)
+head_takes_some old piece new (suc n) judged open_ whole = omega arith

@@ -80,11 +80,11 @@ frame_begins last old piece new n judged e part short none there fields = record
     | inl same ↦ (let k = short (omega arith) in omega arith)
     | inr (inl less) ↦ (let k = short (omega arith) in omega arith)
     | inr (inr more) ↦ (
-      let zero_ : n ≡ 0 = none (omega arith) in
-      let stays : new ≡ old = e ∙ ap (λ k. old ++ take k piece) zero_ ∙ append-nil old in
-      let h : length old ≤ frame_size old = (let k = frame_short last old part in omega arith) in
-      subst (λ xs. length xs ≤ frame_size xs) (sym stays) h
-    )
+        let zero_ : n ≡ 0 = none (omega arith) in
+        let stays : new ≡ old = e ∙ ap (λ k. old ++ take k piece) zero_ ∙ append-nil old in
+        let h : length old ≤ frame_size old = (let k = frame_short last old part in omega arith) in
+        subst (λ xs. length xs ≤ frame_size xs) (sym stays) h
+        )
   ];
   right = frame_right last new judged fields there;
 }
@@ -110,3 +110,12 @@ whole_of_datagram last old piece rest mid new n count h e f taken = record {
   held = two_parts old piece mid new n count e (taken.held ∙ ap (λ xs. mid ++ take count xs) f);
   whole = taken.whole;
 }
+
+-- an open frame is not whole yet
+pub frame_takes_some : (last : TimeStamp) (old piece new : List ℕ) (count : ℕ) → IsFramePart last old → IsFrameWhole last old piece new count → 0 < count
+frame_takes_some last old piece new zero part whole =
+    let same : new ≡ old = whole.held ∙ append-nil old in
+    let short = frame_short last old part in
+    let long : length old ≡ frame_size old = subst (λ xs. length xs ≡ frame_size xs) same whole.whole.all in
+    absurd (omega arith)
+frame_takes_some last old piece new (suc n) part whole = omega arith

@@ -1,5 +1,6 @@
 -- What a record's header says.
 use Rattle.std.specs.Prelude.{◌≡◌, ℕ, zero, suc, ◌+◌, ◌*◌, ◌<◌, ◌==◌, Bool, true, false, if◌then◌else◌, List, [], ◌∷◌, ◌++◌, length, slice_index}
+use Rattle.vrt_words.specs.Words.{AreBytes}
 use Rattle.vrt_header.specs.Profile.{profile_of}
 use Rattle.cam_field.specs.declared.ident.Ident.{Ident}
 use Rattle.cam_field.specs.declared.ident.Ident.TheVariants as idents
@@ -71,3 +72,9 @@ pub record IsHead (head : RecordHead) (bytes : List ℕ) : Type 0 where
   pub initial : AreNumbers head.initial 60 19 bytes
   pub bounds : head.bounds ≡ bounds_in bytes
   pub routes : head.routes ≡ routes_in (is_second bytes) (number_at 36 4 bytes) bytes
+
+-- the header of some bytes
+pub record IsSpelledHead (head : RecordHead) : Type 0 where
+  pub bytes : List ℕ
+  pub fit : AreBytes bytes
+  pub says : IsHead head bytes

@@ -157,7 +157,7 @@ abbrev pub IsPort : Bool → ℕ → ℕ → List ℕ → Type 0
 IsPort false route place front = Unit {0}
 IsPort true route place front =
     (place < number_at (route_at true route + 4) 2 front → (earlier : ℕ) → earlier < place
-        → number_at (port_at true route earlier) 2 front ≢ number_at (port_at true route place) 2 front)
+    → number_at (port_at true route earlier) 2 front ≢ number_at (port_at true route place) 2 front)
     × (number_at (route_at true route + 4) 2 front ≤ place → number_at (port_at true route place) 2 front ≡ 0)
 
 -- the rule of a field, which sees the bytes up to its end
@@ -172,7 +172,7 @@ IsRightIn second Kept front = (2 ≤ number_at 28 4 front) × (number_at 28 4 fr
 IsRightIn second Pending front = (1 ≤ number_at 32 4 front) × (number_at 32 4 front ≤ most_pending second)
 IsRightIn second Routes front = IsRouteCount second (number_at 16 4 front) (number_at 20 4 front) (number_at 32 4 front) (number_at 36 4 front)
 IsRightIn second IdentityForm front = number_at 40 4 front ≤ 2
-IsRightIn second Identity front = 
+IsRightIn second Identity front =
     IsIdentityField (number_at 40 4 front) (number_at 44 4 front) (number_at 48 4 front) (number_at 52 4 front) (number_at 56 4 front)
 IsRightIn second (Initial word) front = IsInitialWord word (number_at (56 + 4 * word) 4 front) (number_at (60 + 4 * word) 4 front)
 IsRightIn second (Flag bound) front = number_at (136 + 28 * bound) 4 front ≤ 1
@@ -181,7 +181,7 @@ IsRightIn second (Least bound) front =
     IsLeast bound (number_at (136 + 28 * bound) 4 front) (number_at (140 + 28 * bound) 8 front) (signed_at (148 + 28 * bound) front)
 IsRightIn second (Greatest bound) front =
     IsGreatest bound (number_at (136 + 28 * bound) 4 front) (number_at (140 + 28 * bound) 8 front) (signed_at (148 + 28 * bound) front)
-        (signed_at (156 + 28 * bound) front)
+    (signed_at (156 + 28 * bound) front)
 IsRightIn second (Stream route) front = 0 < route → number_at (route_at second (route - 1)) 4 front < number_at (route_at second route) 4 front
 IsRightIn second (Number route) front = (1 ≤ number_at (route_at second route + 4) 2 front) × (number_at (route_at second route + 4) 2 front ≤ 4)
 IsRightIn second (Port route place) front = IsPort second route place front

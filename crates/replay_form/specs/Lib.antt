@@ -3,8 +3,11 @@ pub mod NumberLaws
 pub mod HeadFields
 pub mod Head
 pub mod HeadLaws
+pub mod HeadSpelling
+pub mod HeadSpellingLaws
 pub mod FrameFields
 pub mod FrameLaws
+pub mod FrameSpelling
 pub mod PrefixLaws
 pub mod Taking
 pub mod Record

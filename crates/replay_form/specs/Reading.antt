@@ -3,7 +3,7 @@ use Rattle.std.specs.Prelude.{◌≡◌, ℕ, ◌+◌, ◌<◌, ◌≤◌, ◌^�
 use Rattle.vrt_time.specs.Time.{TimeStamp}
 use Rattle.vrt_fields.specs.declared.route.Route.{Route}
 use Rattle.replay_form.specs.Numbers.{number_at}
-use Rattle.replay_form.specs.Head.{IsHead}
+use Rattle.replay_form.specs.Head.{IsHead, IsSpelledHead}
 use Rattle.replay_form.specs.HeadFields.{IsHeadPart, IsHeadOpen, IsHeadWrongAt}
 use Rattle.replay_form.specs.FrameFields.{Frame, frame_in, IsWholeFrame, IsFramePart, IsFrameWrongAt}
 use Rattle.replay_form.specs.Record.{first_stamp, last_stamp, IsOpen, IsRecordWrongAt}
@@ -82,7 +82,7 @@ pub record IsFrameRead (old : Reading) (piece : List ℕ) (count : ℕ) (new : R
     last = (frame_in (begun old ++ take count piece)).stamp;
     start = old.start + length (begun old ++ take count piece);
     whole = true;
-    held = begun old ++ take count piece
+    held = begun old ++ take count piece;
   }
 
 abbrev pub IsStep : Reading → List ℕ → ℕ → Event → Reading → Type 0
@@ -109,6 +109,7 @@ pub record Keeps (reading : Reading) (judged held_room routes_room : ℕ) (route
   pub not_whole : reading.started ≡ false → reading.whole ≡ false
   pub head_open : reading.fault ≡ None → reading.started ≡ false → IsHeadOpen reading.held judged
   pub frame_open : reading.fault ≡ None → reading.started ≡ true → IsFramePart reading.last (begun reading)
+  pub spelled : reading.started ≡ true → IsSpelledHead reading.head
   pub frame_there : reading.whole ≡ true → 20 ≤ length reading.held
   pub idle : IsSome reading.fault → reading.whole ≡ false
   pub small : reading.fault ≡ None → reading.start + length (begun reading) < 2 ^ 63

@@ -114,16 +114,16 @@ failed None old piece offset new taken frames was fails stands =
     elim stands [
       | inl b ↦ inl (b.none, subst (λ xs. IsHeadWrongAt xs offset) (ap (λ xs. xs ++ piece) (sym b.bytes)) (fails.in_head b.started))
       | inr g ↦ (
-        let f = fails.in_frame g.started in
-        inr (record {
-          head = old.head;
-          rest = begun old ++ piece;
-          cut = cut-append old.head frames (begun old) taken piece g.so_far.cut;
-          place = f.0;
-          frame = subst (λ last. IsFrameWrongAt last (begun old ++ piece) f.0) g.last f.1.0;
-          told = omega (arith, f.1.1, g.start, length-append (begun old) piece, length-append taken piece);
-        })
-      )
+          let f = fails.in_frame g.started in
+          inr (record {
+            head = old.head;
+            rest = begun old ++ piece;
+            cut = cut-append old.head frames (begun old) taken piece g.so_far.cut;
+            place = f.0;
+            frame = subst (λ last. IsFrameWrongAt last (begun old ++ piece) f.0) g.last f.1.0;
+            told = omega (arith, f.1.1, g.start, length-append (begun old) piece, length-append taken piece);
+          })
+          )
     ] in
     subst (λ f. StandsWith f new (taken ++ piece) frames) (sym fails.fault) wrong
 
@@ -164,3 +164,20 @@ unfinished None reading taken frames offset ends (inr g) =
 pub unfinished_record : (reading : Reading) (taken : List ℕ) (frames : List Frame) (offset : ℕ) → IsUnfinished reading.fault reading offset
     → StandsFor reading taken frames → IsRecordWrongAt frames taken offset ⊎ (EndsInside taken × (offset ≡ length taken))
 unfinished_record reading taken frames offset ends stands = unfinished reading.fault reading taken frames offset ends stands
+
+-- without a fault, the number of all bytes is known
+pub stands_size : (reading : Reading) (taken : List ℕ) (frames : List Frame) → reading.fault ≡ None → StandsFor reading taken frames
+    → reading.start + length (begun reading) ≡ length taken
+stands_size reading taken frames sound stands = elim (sound_stands reading taken frames sound stands) [ inl b ↦ b.start | inr g ↦ g.start ]
+
+-- a call that gives an event leaves no fault
+pub step_sound : (old : Reading) (piece : List ℕ) (count : ℕ) (event : Event) (new : Reading) → IsStep old piece count event new → new.fault ≡ None
+step_sound old piece count events.More new step = ap (λ (r : Reading). r.fault) step.after ∙ step.sound
+step_sound old piece count events.Head new step = ap (λ (r : Reading). r.fault) step.after
+step_sound old piece count events.Frame new step = ap (λ (r : Reading). r.fault) step.after ∙ step.sound
+
+-- and takes no more bytes than there are
+pub step_few : (old : Reading) (piece : List ℕ) (count : ℕ) (event : Event) (new : Reading) → IsStep old piece count event new → count ≤ length piece
+step_few old piece count events.More new step = (let e = step.all in omega arith)
+step_few old piece count events.Head new step = step.few
+step_few old piece count events.Frame new step = step.few

@@ -47,3 +47,12 @@ pub record IsFrameWhole (last : TimeStamp) (old piece new : List ℕ) (count : �
 abbrev pub IsFrameTaken : TimeStamp → List ℕ → List ℕ → FrameTaken → List ℕ → Type 0
 IsFrameTaken last old piece frames.Part new = IsFramePartTaken last old piece new
 IsFrameTaken last old piece (frames.Whole count) new = IsFrameWhole last old piece new count
+
+-- what was not whole before takes a byte to be whole
+abbrev pub TakesSome : HeadTaken → Type 0
+TakesSome (heads.Part judged) = Unit {0}
+TakesSome (heads.Whole count) = 0 < count
+
+abbrev pub FrameTakesSome : FrameTaken → Type 0
+FrameTakesSome frames.Part = Unit {0}
+FrameTakesSome (frames.Whole count) = 0 < count

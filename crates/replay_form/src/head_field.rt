@@ -155,10 +155,8 @@ impl HeadField {
     {
         match self {
             HeadField::Identity => 16,
-            HeadField::Magic
-            | HeadField::Step(_)
-            | HeadField::Least(_)
-            | HeadField::Greatest(_) => 8,
+            HeadField::Magic | HeadField::Step(_) | HeadField::Least(_) | HeadField::Greatest(_) =>
+                8,
             HeadField::Number(_) | HeadField::Port(_, _) | HeadField::Zero(_) => 2,
             _ => 4,
         }

@@ -3,17 +3,26 @@
 
 mod event;
 mod frame_field;
+mod frame_spelling;
 mod head_field;
 mod head_rules;
+mod head_spelling;
 mod judge_head;
+mod migrate;
 mod numbers;
+mod put;
 mod read_head;
 mod reader;
 mod record_head;
 mod route_list;
 mod take;
+#[cfg(test)]
+mod tests;
 
 pub use crate::event::{Event, RecordFault};
+pub use crate::frame_spelling::encode_frame;
+pub use crate::head_spelling::encode_head;
+pub use crate::migrate::migrate_head;
 pub use crate::reader::RecordReader;
 pub use crate::record_head::RecordHead;
 pub use crate::route_list::RouteList;

@@ -1,6 +1,6 @@
 ghost use Rattle.std.specs.Prelude.{◌≡◌, ◌+◌, ◌*◌, ◌<◌, ◌≤◌, ◌^◌, [], length, vec_capacity};
 ghost use Rattle.vrt_header.specs.Profile.{profile_of};
-ghost use Rattle.replay_form.specs.Head.{IsHead, IsIdentity, limits_in, limit_in, bounds_in, route_in, routes_in};
+ghost use Rattle.replay_form.specs.Head.{IsHead, IsSpelledHead, IsIdentity, limits_in, limit_in, bounds_in, route_in, routes_in};
 ghost use Rattle.replay_form.specs.HeadFields.{IsWholeHead, is_second, route_at};
 ghost use Rattle.replay_form.specs.HeadLaws.{HeadRanges};
 ghost use Rattle.replay_form.specs.Numbers.{number_at};
@@ -21,7 +21,8 @@ pub(crate) fn read_head(bytes: &[u8], routes: Vec<Route>) -> RecordHead
     requires whole { IsWholeHead bytes.now }
     requires empty { routes.items ≡ [] }
     requires room { 256 ≤ vec_capacity routes }
-    ensures { IsHead result bytes.now }
+    ensures says { IsHead result bytes.now }
+    ensures spelled { IsSpelledHead result }
 {
     let second = is_second_form(bytes);
     let profile = profile_in(bytes);

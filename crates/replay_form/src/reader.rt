@@ -1,4 +1,5 @@
-ghost use Rattle.std.specs.Prelude.{◌≡◌, ◌+◌, ◌*◌, ◌<◌, ◌≤◌, ◌^◌, ◌++◌, ◌↔◌, ◌⊎◌, ℕ, List, [], None, false, true, length, take, MatchOption, IfOk, OnOk, IfErr, OnErr};
+ghost use Rattle.std.specs.Prelude.{◌≡◌, ◌+◌, ◌*◌, ◌<◌, ◌≤◌, ◌^◌, ◌++◌, ◌↔◌, ◌⊎◌, ℕ, List, [], None, false, true, length, take, MatchOption, IfSome, IfOk, OnOk, IfErr, OnErr};
+ghost use Rattle.replay_form.specs.Head.{IsSpelledHead};
 ghost use Rattle.replay_form.specs.FrameFields.{Frame, IsWholeFrame};
 ghost use Rattle.replay_form.specs.Numbers.{number_at};
 ghost use Rattle.replay_form.specs.Reading.{StandsFor, IsFresh, IsStep, IsFailed, IsNewFault, IsFinished, IsUnfinished, begun, frames_after, held_frame};
@@ -93,6 +94,9 @@ impl RecordReader {
         ensures fails { OnErr result ((taken : List ℕ) (frames : List Frame) → StandsFor self.old taken frames
             → StandsFor self.new (taken ++ piece.now) frames) }
 
+        ensures few { IfOk result (λ step. step.0 ≤ length piece.now) }
+        ensures progress { IfOk result (λ step. 0 < length piece.now → 0 < step.0) }
+
         // The same, by what the reader knows.
         ensures step { IfOk result (λ step. IsStep self.old piece.now step.0 step.1 self.new) }
         ensures wrong { IfErr result (λ fault. IsFailed self.old.fault self.old piece.now fault.offset self.new) }
@@ -103,7 +107,8 @@ impl RecordReader {
 
     /// The header, once it is whole.
     pub fn head(&self) -> Option<&RecordHead>
-        ensures { MatchOption result (self.now.started ≡ false) (λ head. (self.now.started ≡ true) × (head.now ≡ self.now.head)) }
+        ensures head { MatchOption result (self.now.started ≡ false) (λ head. (self.now.started ≡ true) × (head.now ≡ self.now.head)) }
+        ensures spelled { IfSome result (λ head. IsSpelledHead head.now) }
     {
         if self.started { Some(&self.head) } else { None }
     }
@@ -142,8 +147,8 @@ impl RecordReader {
         ensures finished { OnOk result (IsFinished self.now) }
         ensures unfinished { IfErr result (λ fault. IsUnfinished self.now.fault self.now fault.offset) }
     {
-        if let Some(fault) = self.fault {
-            return Err(fault);
+        if let Some(standing) = self.fault {
+            return Err(standing);
         }
         let begun = if self.whole { 0 } else { self.held.len() };
         if self.started && begun == 0 {
@@ -158,6 +163,7 @@ impl RecordReader {
     fn advance(&mut self, piece: &[u8]) -> Result<(usize, Event), RecordFault>
         requires { self.old.fault ≡ None → self.old.start + length (begun self.old) + length piece.now < 2 ^ 63 }
         ensures step { IfOk result (λ step. IsStep self.old piece.now step.0 step.1 self.new) }
+        ensures progress { IfOk result (λ step. 0 < length piece.now → 0 < step.0) }
         ensures wrong { IfErr result (λ fault. IsFailed self.old.fault self.old piece.now fault.offset self.new) }
         ensures idle { OnErr result (self.new.whole ≡ false) }
     {
@@ -188,6 +194,7 @@ impl RecordReader {
         requires first { self.old.started ≡ false }
         requires small { self.old.start + length (begun self.old) + length piece.now < 2 ^ 63 }
         ensures step { IfOk result (λ step. IsStep self.old piece.now step.0 step.1 self.new) }
+        ensures progress { IfOk result (λ step. 0 < length piece.now → 0 < step.0) }
         ensures wrong { IfErr result (λ fault. IsNewFault self.old piece.now fault.offset self.new) }
     {
         match take_head(&mut self.held, self.judged, piece) {
@@ -221,6 +228,7 @@ impl RecordReader {
         requires idle { self.old.whole ≡ false }
         requires small { self.old.start + length (begun self.old) + length piece.now < 2 ^ 63 }
         ensures step { IfOk result (λ step. IsStep self.old piece.now step.0 step.1 self.new) }
+        ensures progress { IfOk result (λ step. 0 < length piece.now → 0 < step.0) }
         ensures wrong { IfErr result (λ fault. IsNewFault self.old piece.now fault.offset self.new) }
     {
         match take_frame(&mut self.held, self.last, piece) {

@@ -1,6 +1,6 @@
 ghost use Rattle.std.specs.Prelude.{◌≡◌, ◌+◌, ◌*◌, ◌<◌, ◌≤◌, ◌^◌, ◌++◌, true, false, length, take, drop, vec_len, vec_capacity, IfOk, IfErr};
 ghost use Rattle.replay_form.specs.HeadFields.{IsHeadOpen, IsWholeHead, IsHeadWrongAt, head_size};
-ghost use Rattle.replay_form.specs.Taking.{IsHeadTaken, IsHeadBegun, IsFrameTaken, IsFrameBegun};
+ghost use Rattle.replay_form.specs.Taking.{IsHeadTaken, IsHeadBegun, TakesSome, IsFrameTaken, IsFrameBegun, FrameTakesSome};
 ghost use Rattle.replay_form.specs.FrameFields.{IsFramePart, IsWholeFrame, IsFrameWrongAt};
 
 use crate::frame_field::{FRAME_HEAD, judge_frame, size_of_frame};
@@ -56,14 +56,11 @@ fn take_up_to(held: &mut Vec<u8>, piece: &[u8], size: usize) -> usize
 
 /// Takes bytes of the piece until a header is whole, and judges each field as soon as it is there.
 /// `Err` has the offset of the first field that is wrong, in the header.
-pub(crate) fn take_head(
-    held: &mut Vec<u8>,
-    judged: usize,
-    piece: &[u8],
-) -> Result<HeadTaken, usize>
+pub(crate) fn take_head(held: &mut Vec<u8>, judged: usize, piece: &[u8]) -> Result<HeadTaken, usize>
     requires begun { IsHeadOpen held.old.items judged }
     requires room { 65555 ≤ vec_capacity held.old }
     ensures taken { IfOk result (λ taken. IsHeadTaken held.old.items piece.now taken held.new.items) }
+    ensures progress { IfOk result TakesSome }
     ensures wrong { IfErr result (λ offset. IsHeadWrongAt (held.old.items ++ piece.now) offset) }
     ensures capacity { vec_capacity held.old ≤ vec_capacity held.new }
 {
@@ -105,14 +102,11 @@ fn take_routes(held: &mut Vec<u8>, judged: usize, piece: &[u8]) -> Result<HeadTa
 
 /// Takes bytes of the piece until a frame is whole, and judges each field as soon as it is there.
 /// `Err` has the offset of the first field that is wrong, in the frame.
-pub(crate) fn take_frame(
-    held: &mut Vec<u8>,
-    last: Stamp,
-    piece: &[u8],
-) -> Result<FrameTaken, usize>
+pub(crate) fn take_frame(held: &mut Vec<u8>, last: Stamp, piece: &[u8]) -> Result<FrameTaken, usize>
     requires begun { IsFramePart last held.old.items }
     requires room { 65555 ≤ vec_capacity held.old }
     ensures taken { IfOk result (λ taken. IsFrameTaken last held.old.items piece.now taken held.new.items) }
+    ensures progress { IfOk result FrameTakesSome }
     ensures wrong { IfErr result (λ offset. IsFrameWrongAt last (held.old.items ++ piece.now) offset) }
     ensures capacity { vec_capacity held.old ≤ vec_capacity held.new }
 {

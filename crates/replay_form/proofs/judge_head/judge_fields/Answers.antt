@@ -10,4 +10,4 @@ loop-index-preserved c =
     let end = c.offset-offset.result + c.width.result in
     let ends : end ≡ end_of c.args.second field = cc in
     one_more c.args.bytes.now c.loop-index.index end c.args.second field c.requires.form c.at-field.ensures ends c.if-bytes-end.false
-        (c.if-not-is_right.ensures.0 refl) c.loop-index.invariant
+    (c.if-not-is_right.ensures.0 refl) c.loop-index.invariant

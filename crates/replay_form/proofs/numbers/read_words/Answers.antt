@@ -8,6 +8,6 @@ returns c =
     let same : length c.read_u32_into.new.dst ≡ length c.args.into.now = omega arith in record {
       all = same;
       each = λ i h.
-        let k : i < length c.read_u32_into.new.dst = omega arith in
-        c.read_u32_into.ensures i k ∙ number_at-between c.args.offset _ (4 * i) 4 c.args.bytes.now (omega arith);
+          let k : i < length c.read_u32_into.new.dst = omega arith in
+          c.read_u32_into.ensures i k ∙ number_at-between c.args.offset _ (4 * i) 4 c.args.bytes.now (omega arith);
     }

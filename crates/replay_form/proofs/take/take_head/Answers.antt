@@ -2,7 +2,7 @@
 use Rattle.std.proofs.Common.{◌≡◌, ◌<◌, ◌≤◌, ◌+◌, ◌*◌, ℕ, List, length, take, drop, ◌++◌, sym, ap, subst, ◌∙◌, vec_len, arith}
 use Rattle.std.proofs.lemmas.List.{take_rest}
 use Rattle.replay_form.specs.HeadFields.{IsJudged, IsHeadWrongAt, field_count, head_size}
-use Rattle.replay_form.proofs.Taking.{open_resumes, wrong_in_piece, whole_piece, judged_open, begins, part_of_rest, whole_of_rest, least_size}
+use Rattle.replay_form.proofs.Taking.{open_resumes, wrong_in_piece, whole_piece, judged_open, begins, part_of_rest, whole_of_rest, least_size, head_takes_some}
 use Rattle.replay_form.proofs.take.take_head.Goals as goal
 
 pub judge_head-requires-clause-right : goal.judge_head-requires-clause-right
@@ -39,16 +39,21 @@ take_routes-requires-clause-begun c =
     let judged = subst (λ xs. IsJudged xs c.in-Ok.judged (field_count xs)) c.deref.ensures.value c.in-Ok.ensures.judged in
     let count : length new ≡ vec_len c.take_up_to-first.new.held = sym (ap length c.deref.ensures.value) ∙ c.deref.ensures.len in
     begins old c.args.piece.now new c.take_up_to-first.result c.args.judged c.in-Ok.judged c.take_up_to-first.ensures.held c.requires.begun
-        c.take_up_to-first.ensures.within c.take_up_to-first.ensures.none (omega arith) judged
+    c.take_up_to-first.ensures.within c.take_up_to-first.ensures.none (omega arith) judged
 
 pub returns-in-Ok-Part-clause-taken : goal.returns-in-Ok-Part-clause-taken
 returns-in-Ok-Part-clause-taken c =
     let taken = rw c.in-Ok-Part.field-0-is at c.in-Ok-Part.ensures.taken in
     part_of_rest c.args.held.now.items c.args.piece.now _ c.take_up_to-first.new.held.items c.take_routes.new.held.items c.take_up_to-first.result c.in-Ok-Part.judged
-        c.take_up_to-first.ensures.held (take_rest c.args.piece.now c.take_up_to-first.result) taken
+    c.take_up_to-first.ensures.held (take_rest c.args.piece.now c.take_up_to-first.result) taken
 
 pub returns-in-Ok-Whole-clause-taken : goal.returns-in-Ok-Whole-clause-taken
 returns-in-Ok-Whole-clause-taken c =
     let taken = rw c.in-Ok-Whole.field-0-is at c.in-Ok-Whole.ensures.taken in
     whole_of_rest c.args.held.now.items c.args.piece.now _ c.take_up_to-first.new.held.items c.take_routes.new.held.items c.take_up_to-first.result c.in-Ok-Whole.count
-        c.take_up_to-first.ensures.few c.take_up_to-first.ensures.held (take_rest c.args.piece.now c.take_up_to-first.result) taken
+    c.take_up_to-first.ensures.few c.take_up_to-first.ensures.held (take_rest c.args.piece.now c.take_up_to-first.result) taken
+
+pub returns-in-Ok-Whole-clause-progress : goal.returns-in-Ok-Whole-clause-progress
+returns-in-Ok-Whole-clause-progress c =
+    head_takes_some c.args.held.now.items c.args.piece.now c.take_routes.new.held.items (c.take_up_to-first.result + c.in-Ok-Whole.count) c.args.judged c.requires.begun
+    (returns-in-Ok-Whole-clause-taken c)

@@ -3,7 +3,7 @@ use Rattle.std.proofs.Common.{◌≡◌, ℕ, List, ◌++◌, take, Result, Ok, 
 use Rattle.std.proofs.lemmas.Result.{IfOk-weaker}
 use Rattle.replay_form.specs.FrameFields.{Frame}
 use Rattle.replay_form.specs.Reading.{StandsFor, IsStep, IsFailed, frames_after}
-use Rattle.replay_form.specs.ReadingLaws.{step_stands, failed_stands}
+use Rattle.replay_form.specs.ReadingLaws.{step_stands, step_few, failed_stands}
 use Rattle.replay_form.proofs.reader.RecordReader.feed.Goals as goal
 
 on_err : {A B : Type 0} (P : Type 0) (Q : B → Type 0) (r : Result A B) → ((e : B) → Q e → P) → IfErr r Q → OnErr r P
@@ -19,3 +19,8 @@ pub returns-clause-fails : goal.returns-clause-fails
 returns-clause-fails c =
     on_err _ (λ fault. IsFailed c.args.self.now.fault c.args.self.now c.args.piece.now fault.offset c.advance.new.self) c.advance.result
     (λ fault is taken frames stands. failed_stands c.args.self.now c.args.piece.now fault.offset c.advance.new.self taken frames is stands) c.advance.ensures.wrong
+
+pub returns-clause-few : goal.returns-clause-few
+returns-clause-few c =
+    IfOk-weaker c.advance.result (λ step. IsStep c.args.self.now c.args.piece.now step.0 step.1 c.advance.new.self) _
+    (λ step is. step_few c.args.self.now c.args.piece.now step.0 step.1 c.advance.new.self is) c.advance.ensures.step

@@ -1,0 +1,12 @@
+-- The number replaces the bytes there, and nothing else.
+use Rattle.std.proofs.Common.{◌∙◌}
+use Rattle.replay_form.proofs.Putting.{put-is, agrees, stays}
+use Rattle.replay_form.proofs.put.put_u16.Goals as goal
+
+pub returns-clause-agrees : goal.returns-clause-agrees
+returns-clause-agrees c = λ bytes fits there same e.
+    agrees 2 c.args.offset c.args.number c.args.into.now _ bytes c.requires (put-is 2 c.args.offset c.args.number c.args.into.now _ c.requires c.write_u16.ensures) fits there same e
+
+pub returns-clause-stays : goal.returns-clause-stays
+returns-clause-stays c =
+    stays 2 c.args.offset c.args.number c.args.into.now _ c.requires (put-is 2 c.args.offset c.args.number c.args.into.now _ c.requires c.write_u16.ensures)

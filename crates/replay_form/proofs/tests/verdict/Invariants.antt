@@ -1,0 +1,15 @@
+use Rattle.std.proofs.Common.{◌≡◌, ◌≤◌, ◌-◌, ℕ, List, length, take, None}
+use Rattle.replay_form.specs.FrameFields.{Frame}
+use Rattle.replay_form.specs.Reading.{StandsFor}
+use Rattle.replay_form.proofs.tests.verdict.Given as goal
+
+-- the reader stands for the bytes so far
+abbrev pub invariant-loop-at : goal.invariant-loop-at
+invariant-loop-at l = record {
+  within : l.at ≤ length l.bytes;
+  sound : l.reader.fault ≡ None;
+  stands : (frames : List Frame) × StandsFor l.reader (take l.at l.bytes) frames;
+}
+
+abbrev pub decreases-loop-at : goal.decreases-loop-at
+decreases-loop-at l = length l.bytes - l.at

@@ -1,0 +1,25 @@
+ghost use Rattle.std.specs.Prelude.{◌≡◌, IfOk};
+
+use crate::record_head::RecordHead;
+use crate::route_list::RouteList;
+use std::alloc::Global;
+use vrt_words::NoMemory;
+
+/// The same header in form 2.
+pub fn migrate_head(alloc: Global, head: &RecordHead) -> Result<RecordHead, NoMemory>
+    ensures { IfOk result (λ migrated. migrated ≡ record head.now { form = 2 }) }
+{
+    let Ok(routes) = Vec::from_slice(alloc, head.routes.as_slice()) else {
+        return Err(NoMemory);
+    };
+    Ok(RecordHead {
+        form: 2,
+        profile: head.profile,
+        max_words: head.max_words,
+        limits: head.limits,
+        identity: head.identity,
+        initial: head.initial,
+        bounds: head.bounds,
+        routes: RouteList::new(routes),
+    })
+}

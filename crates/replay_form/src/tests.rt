@@ -1,0 +1,437 @@
+ghost use Rattle.std.specs.Prelude.{◌≤◌, ◌<◌, ◌^◌, length};
+
+use super::*;
+use std::alloc::Global;
+use std::test::Fail;
+use vrt_words::{NoMemory, put_words};
+
+/// The words of a header without routes: form 1, at most 400 words a packet, no windows, four
+/// contexts kept, eight packets waiting. RF, gain and sample rate can be set.
+const HEADER: [u32; 83] = [
+    0x4449_4649,
+    0x5245_4331,
+    0x006A_621E,
+    1,
+    400,
+    0,
+    0,
+    4,
+    8,
+    0,
+    // No identity.
+    0,
+    0,
+    0,
+    0,
+    0,
+    // The initial fields.
+    0x64,
+    0x44,
+    0x5C00_0000,
+    0x42C1,
+    0xD800_0000,
+    0x0004_7868,
+    0xC000_0000,
+    0,
+    0,
+    0,
+    0x500,
+    0x55,
+    0x7300_0000,
+    0,
+    0,
+    0,
+    0xC00C_0000,
+    0xA000_03CF,
+    0,
+    // Bandwidth and IF reference.
+    0,
+    0,
+    0,
+    0,
+    0,
+    0,
+    0,
+    0,
+    0,
+    0,
+    0,
+    0,
+    0,
+    0,
+    // RF reference: from 1 to 2 GHz by 1 Hz.
+    1,
+    0,
+    0x0010_0000,
+    0x0003_B9AC,
+    0xA000_0000,
+    0x0007_7359,
+    0x4000_0000,
+    // IF offset and reference level.
+    0,
+    0,
+    0,
+    0,
+    0,
+    0,
+    0,
+    0,
+    0,
+    0,
+    0,
+    0,
+    0,
+    0,
+    // Gain: from -20 to 20 dB by half a decibel.
+    1,
+    0,
+    64,
+    0xFFFF_FFFF,
+    0xFFFF_F600,
+    0,
+    2_560,
+    // Sample rate: from 100 kHz to 1 MHz by 1 Hz.
+    1,
+    0,
+    0x0010_0000,
+    0x18,
+    0x6A00_0000,
+    0xF4,
+    0x2400_0000,
+];
+
+/// A context packet of the first stream.
+const CONTEXT: [u32; 27] = [
+    0x4960_001B,
+    1,
+    0x006A_621E,
+    1,
+    0x6553_F100,
+    0,
+    0,
+    0xFBB9_8000,
+    0x64,
+    0x44,
+    0x5C00_0000,
+    0x42C1,
+    0xD800_0000,
+    0x0004_7868,
+    0xC000_0000,
+    0,
+    0,
+    0,
+    0x500,
+    0x55,
+    0x7300_0000,
+    0,
+    0,
+    0,
+    0xC00C_0000,
+    0xA000_03CF,
+    0,
+];
+
+// A header without routes.
+fn header() -> [u8; 332] {
+    let mut bytes = [0; 332];
+    put_words(&mut bytes, 0, &HEADER);
+    bytes
+}
+
+// A header with one route, from stream 1 to port 9.
+fn routed() -> [u8; 340] {
+    let mut bytes = [0; 340];
+    put_words(&mut bytes, 0, &HEADER);
+    put_words(&mut bytes, 9, &[1]);
+    put_words(&mut bytes, 83, &[1, 0x0009_0000]);
+    bytes
+}
+
+// The same in form 2.
+fn second_form() -> [u8; 348] {
+    let mut bytes = [0; 348];
+    put_words(&mut bytes, 0, &HEADER);
+    put_words(&mut bytes, 1, &[0x5245_4332]);
+    put_words(&mut bytes, 9, &[1]);
+    put_words(&mut bytes, 83, &[1, 0x0001_0009, 0, 0]);
+    bytes
+}
+
+// The number of frames and the verdict, where the bytes come in pieces of this size.
+fn verdict(
+    alloc: Global,
+    bytes: &[u8],
+    piece: usize,
+) -> Result<(u64, Result<(), RecordFault>), NoMemory>
+    requires some { 1 ≤ piece }
+    requires few { piece < 2 ^ 32 }
+    requires small { length bytes.now < 2 ^ 32 }
+{
+    let mut reader = RecordReader::open(alloc)?;
+    let mut frames: u64 = 0;
+    let mut at = 0;
+    while at < bytes.len() {
+        let end = bytes.len().min(at + piece);
+        let (count, event) = match reader.feed(&bytes[at..end]) {
+            Ok(step) => step,
+            Err(fault) => return Ok((frames, Err(fault))),
+        };
+        frames = frames.wrapping_add(u64::from(event == Event::Frame));
+        at += count;
+    }
+    Ok((frames, reader.finish()))
+}
+
+// The verdict in one piece.
+fn whole_verdict(alloc: Global, bytes: &[u8]) -> Result<(u64, Result<(), RecordFault>), NoMemory>
+    requires { length bytes.now < 2 ^ 32 }
+{
+    verdict(alloc, bytes, 4_096)
+}
+
+// The header with one byte changed.
+fn changed(at: usize, byte: u8) -> [u8; 332] {
+    let mut bytes = header();
+    if let Some(slot) = bytes.get_mut(at) {
+        *slot = byte;
+    }
+    bytes
+}
+
+// The verdict on the first bytes alone.
+fn front_verdict(
+    alloc: Global,
+    bytes: &[u8],
+    len: usize,
+) -> Result<(u64, Result<(), RecordFault>), NoMemory>
+    requires within { len ≤ length bytes.now }
+    requires small { length bytes.now < 2 ^ 32 }
+{
+    verdict(alloc, &bytes[..len], 4_096)
+}
+
+// A header with one route and two frames, the second of which came at this second.
+fn framed(seconds: u32) -> [u8; 488] {
+    let mut bytes = [0; 488];
+    bytes[..340].copy_from_slice(&routed());
+    put_words(&mut bytes, 85, &[0x6553_F10A, 0, 0, 0x0005_0000, 108]);
+    put_words(&mut bytes, 90, &CONTEXT);
+    put_words(&mut bytes, 117, &[seconds, 0, 0, 0x0005_0000, 0]);
+    bytes
+}
+
+fn bad(offset: u64) -> Result<(), RecordFault> {
+    Err(RecordFault { offset })
+}
+
+#[test]
+fn a_record_is_read_in_any_pieces(rt: HostRuntime) -> Result<(), Fail> {
+    let alloc = rt.alloc();
+    let bytes = framed(0x6553_F10A);
+    assert!(rt; verdict(alloc, &bytes, 1).ok() == Some((2, Ok(()))));
+    assert!(rt; verdict(alloc, &bytes, 7).ok() == Some((2, Ok(()))));
+    assert!(rt; verdict(alloc, &bytes, 4_096).ok() == Some((2, Ok(()))));
+    assert!(rt; whole_verdict(alloc, &header()).ok() == Some((0, Ok(()))));
+    Ok(())
+}
+
+#[test]
+fn a_fault_has_the_offset_of_its_field(rt: HostRuntime) -> Result<(), Fail> {
+    let alloc = rt.alloc();
+    // A magic of another form, a timestamp code of 4, a cut header, and nothing.
+    assert!(rt; whole_verdict(alloc, &changed(7, b'3')).ok() == Some((0, bad(0))));
+    assert!(rt; whole_verdict(alloc, &changed(15, 4)).ok() == Some((0, bad(12))));
+    assert!(rt; front_verdict(alloc, &header(), 100).ok() == Some((0, bad(100))));
+    assert!(rt; whole_verdict(alloc, &[]).ok() == Some((0, bad(0))));
+    assert!(rt; whole_verdict(alloc, b"DIFIREC2").ok() == Some((0, bad(8))));
+    // A second frame that came before the first.
+    assert!(rt; whole_verdict(alloc, &framed(0x6553_F100)).ok() == Some((1, bad(468))));
+    // A frame with a second of picoseconds.
+    let mut bytes = [0; 352];
+    bytes[..340].copy_from_slice(&routed());
+    put_words(&mut bytes, 85, &[0x6553_F10A, 232, 3_567_587_328]);
+    assert!(rt; whole_verdict(alloc, &bytes).ok() == Some((0, bad(344))));
+    // The same port twice in a route of form 2.
+    let mut bytes = [0; 348];
+    put_words(&mut bytes, 0, &HEADER);
+    put_words(&mut bytes, 1, &[0x5245_4332]);
+    put_words(&mut bytes, 9, &[1]);
+    put_words(&mut bytes, 83, &[1, 0x0002_0009, 0x0009_0000, 0]);
+    assert!(rt; verdict(alloc, &bytes, 1).ok() == Some((0, bad(340))));
+    Ok(())
+}
+
+#[test]
+fn each_field_of_the_header_is_judged(rt: HostRuntime) -> Result<(), Fail> {
+    let alloc = rt.alloc();
+    // A byte that is wrong, and the offset of its field.
+    let faults: [(usize, u8, u64); 25] = [
+        (0, b'd', 0),
+        (8, 1, 8),
+        (15, 0, 12),
+        (16, 1, 16),
+        (22, 0x20, 20),
+        (26, 0x20, 24),
+        (31, 1, 28),
+        (35, 0, 32),
+        (38, 2, 36),
+        (43, 3, 40),
+        (59, 1, 44),
+        (104, 0x80, 104),
+        (128, 0x40, 128),
+        (135, 1, 132),
+        (139, 2, 136),
+        (147, 1, 140),
+        (155, 1, 148),
+        (163, 1, 156),
+        (196, 0x80, 196),
+        (211, 1, 204),
+        (212, 0x80, 212),
+        (295, 1, 288),
+        (302, 0x80, 296),
+        (303, 1, 296),
+        (331, 1, 324),
+    ];
+    for (at, byte, offset) in faults {
+        assert!(rt; whole_verdict(alloc, &changed(at, byte)).ok() == Some((0, bad(offset))));
+    }
+    Ok(())
+}
+
+#[test]
+fn each_field_of_a_route_is_judged(rt: HostRuntime) -> Result<(), Fail> {
+    let alloc = rt.alloc();
+    let mut bytes = [0; 348];
+    put_words(&mut bytes, 0, &HEADER);
+    put_words(&mut bytes, 9, &[2]);
+    // Form 1: two bytes behind a port, and a stream ID that is not above the one before.
+    put_words(&mut bytes, 83, &[5, 0x0009_0001, 6, 0]);
+    assert!(rt; whole_verdict(alloc, &bytes).ok() == Some((0, bad(338))));
+    put_words(&mut bytes, 83, &[5, 0x0009_0000, 5, 0]);
+    assert!(rt; whole_verdict(alloc, &bytes).ok() == Some((0, bad(340))));
+    // Form 2: no port, five ports, and a port behind the last.
+    put_words(&mut bytes, 1, &[0x5245_4332]);
+    put_words(&mut bytes, 83, &[5, 0, 0, 0]);
+    assert!(rt; whole_verdict(alloc, &bytes).ok() == Some((0, bad(336))));
+    put_words(&mut bytes, 83, &[5, 0x0005_0001, 0x0002_0003, 0]);
+    assert!(rt; whole_verdict(alloc, &bytes).ok() == Some((0, bad(336))));
+    put_words(&mut bytes, 83, &[5, 0x0001_0009, 0x0007_0000, 0]);
+    assert!(rt; whole_verdict(alloc, &bytes).ok() == Some((0, bad(340))));
+    Ok(())
+}
+
+// The bytes of the header that these bytes are, written again into as many bytes and one more, where
+// it has one route.
+fn written(alloc: Global, bytes: &[u8]) -> Result<[u8; 349], Fail>
+    requires { length bytes.now < 2 ^ 32 }
+{
+    let mut reader = RecordReader::open(alloc)?;
+    let Ok((_, Event::Head)) = reader.feed(bytes) else {
+        return Err(Fail::from("no header"));
+    };
+    let Some(head) = reader.head() else {
+        return Err(Fail::from("no header"));
+    };
+    let mut again = [7; 349];
+    if head.routes.as_slice().len() != 1 {
+        return Err(Fail::from("routes"));
+    }
+    encode_head(head, &mut again);
+    Ok(again)
+}
+
+#[test]
+fn a_header_is_read(rt: HostRuntime) -> Result<(), Fail> {
+    let mut reader = RecordReader::open(rt.alloc())?;
+    assert!(rt; reader.head().is_none());
+    assert!(rt; reader.feed(&routed()) == Ok((340, Event::Head)));
+    let head = reader.head().ok_or("no header")?;
+    assert_eq!(rt; head.form, 1);
+    assert_eq!(rt; head.profile.cid(), 0x006A_621E);
+    assert_eq!(rt; head.profile.tsi(), 1);
+    assert_eq!(rt; head.max_words, 400);
+    assert_eq!(rt; head.limits.kept, 4);
+    assert_eq!(rt; head.limits.pending, 8);
+    assert!(rt; head.identity == Ident::None);
+    assert_eq!(rt; head.initial[11], 0x55);
+    assert!(rt;
+        head.bounds[5]
+            == Limit {
+                settable: true,
+                step: 64,
+                least: -2_560,
+                greatest: 2_560,
+            }
+    );
+    let route = Route {
+        stream: 1,
+        ports: [9, 0, 0, 0],
+        number: 1,
+    };
+    assert!(rt; head.routes.as_slice() == [route].as_slice());
+    Ok(())
+}
+
+#[test]
+fn a_header_is_written_as_it_was_read(rt: HostRuntime) -> Result<(), Fail> {
+    let alloc = rt.alloc();
+    let first = routed();
+    let again = written(alloc, &first)?;
+    assert!(rt; again.starts_with(&first));
+    assert_eq!(rt; again[340], 7);
+    let second = second_form();
+    let again = written(alloc, &second)?;
+    assert!(rt; again.starts_with(&second));
+    assert_eq!(rt; again[348], 7);
+    Ok(())
+}
+
+#[test]
+fn a_migrated_header_has_form_2(rt: HostRuntime) -> Result<(), Fail> {
+    let alloc = rt.alloc();
+    let mut first = RecordReader::open(alloc)?;
+    let mut second = RecordReader::open(alloc)?;
+    assert!(rt; first.feed(&routed()) == Ok((340, Event::Head)));
+    assert!(rt; second.feed(&second_form()) == Ok((348, Event::Head)));
+    let migrated = migrate_head(alloc, first.head().ok_or("no header")?)?;
+    let wanted = second.head().ok_or("no header")?;
+    assert_eq!(rt; migrated.form, wanted.form);
+    assert!(rt; migrated.profile == wanted.profile);
+    assert_eq!(rt; migrated.max_words, wanted.max_words);
+    assert!(rt; migrated.limits == wanted.limits);
+    assert!(rt; migrated.identity == wanted.identity);
+    assert!(rt; migrated.initial == wanted.initial);
+    assert!(rt; migrated.bounds == wanted.bounds);
+    assert!(rt; migrated.routes.as_slice() == wanted.routes.as_slice());
+    Ok(())
+}
+
+#[test]
+fn a_frame_is_written_and_read(rt: HostRuntime) -> Result<(), Fail> {
+    let alloc = rt.alloc();
+    let moment = Stamp::of_picos(0x6553_F10A, 1).ok_or("stamp")?;
+    let mut bytes = [0; 23];
+    assert_eq!(rt; encode_frame(moment, 5, b"abc", &mut bytes), 23);
+    let mut reader = RecordReader::open(alloc)?;
+    assert!(rt; reader.feed(&routed()) == Ok((340, Event::Head)));
+    assert!(rt; reader.finish() == Ok(()));
+    assert!(rt; reader.feed(&bytes) == Ok((23, Event::Frame)));
+    let Some((stamp, port, datagram)) = reader.frame() else {
+        return Err(Fail::from("no frame"));
+    };
+    assert!(rt; stamp == moment);
+    assert_eq!(rt; port, 5);
+    assert!(rt; datagram == b"abc".as_slice());
+    Ok(())
+}
+
+#[test]
+fn a_fault_stays(rt: HostRuntime) -> Result<(), Fail> {
+    let alloc = rt.alloc();
+    let mut reader = RecordReader::open(alloc)?;
+    assert!(rt; reader.feed(b"DIFIREC3") == Err(RecordFault { offset: 0 }));
+    assert!(rt; reader.feed(b"more") == Err(RecordFault { offset: 0 }));
+    assert!(rt; reader.finish() == Err(RecordFault { offset: 0 }));
+    assert!(rt; reader.frame().is_none());
+    Ok(())
+}
