@@ -1,10 +1,18 @@
 //! Binds the samples of a stream's data packets to the contexts in force when they were captured.
 #![tactic(auto)]
 
+mod label;
+mod leaving;
 mod limits;
+mod out;
+mod pending;
 mod reason;
 mod run;
+mod shape;
+mod turned;
 
 pub use crate::limits::Limits;
+pub use crate::out::Out;
 pub use crate::reason::Reason;
 pub use crate::run::Run;
+pub use crate::turned::Turned;
