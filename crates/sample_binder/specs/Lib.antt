@@ -4,3 +4,6 @@ pub mod Due
 pub mod Runs
 pub mod Outputs
 pub mod Examples
+pub mod Cases
+pub mod Sound
+pub mod Stretches

@@ -1,6 +1,8 @@
 //! Binds the samples of a stream's data packets to the contexts in force when they were captured.
 #![tactic(auto)]
 
+mod clock;
+mod cut;
 mod label;
 mod leaving;
 mod limits;
@@ -8,6 +10,8 @@ mod out;
 mod pending;
 mod reason;
 mod run;
+mod sampled;
+mod sampling;
 mod shape;
 mod turned;
 
