@@ -1,3 +1,4 @@
 pub mod ClockLemmas
 pub mod SampleLemmas
 pub mod CutLemmas
+pub mod RunLemmas

@@ -7,3 +7,5 @@ pub mod Examples
 pub mod Cases
 pub mod Sound
 pub mod Stretches
+pub mod Left
+pub mod FirstLaws

@@ -1,4 +1,5 @@
 use crate::reason::Reason;
+use crate::sampled::Sampled;
 use vrt_time::Stamp;
 
 /// What is left of a packet that leaves.
@@ -9,13 +10,6 @@ pub(crate) enum Leaving {
         stamp: Stamp,
         pad: u8,
     },
-    /// Its samples from one on, timed and laid out by the context of the first.
-    Cut {
-        stamp: Stamp,
-        fields: [u32; 19],
-        /// How many samples the packet has.
-        number: u32,
-        /// The first of those that are left.
-        first: u32,
-    },
+    /// Its samples from this one on.
+    Cut { samples: Sampled, first: u32 },
 }

@@ -10,6 +10,7 @@ mod out;
 mod pending;
 mod reason;
 mod run;
+mod runs;
 mod sampled;
 mod sampling;
 mod shape;
