@@ -9,3 +9,4 @@ pub mod Sound
 pub mod Stretches
 pub mod Left
 pub mod FirstLaws
+pub mod DueLaws
