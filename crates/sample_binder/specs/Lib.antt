@@ -10,3 +10,5 @@ pub mod Stretches
 pub mod Left
 pub mod FirstLaws
 pub mod DueLaws
+pub mod Queue
+pub mod OutputLaws
