@@ -2,6 +2,8 @@
 use Rattle.std.specs.Prelude.{◌≡◌, ℕ, ◌+◌, ◌-◌, ◌≤◌, ◌||◌, nat_lt, Bool, if◌then◌else◌, List, [], ◌∷◌, ◌++◌, length, drop, map, slice_get, Option, Some, None, IfSome}
 use Rattle.context_timeline.specs.declared.timed_context.TimedContext.{TimedContext}
 use Rattle.context_timeline.specs.Line.{Line}
+use Rattle.context_timeline.specs.Marks.{mark_in}
+use Rattle.vrt_time.specs.Time.{moment_of}
 use Rattle.sample_binder.specs.declared.leaving.Leaving.{Leaving}
 use Rattle.sample_binder.specs.declared.limits.Limits.{Limits}
 use Rattle.sample_binder.specs.declared.out.Out.{Out}
@@ -10,7 +12,7 @@ use Rattle.sample_binder.specs.declared.pending.Pending.{Pending}
 use Rattle.sample_binder.specs.declared.shape.Shape.{Shape}
 use Rattle.sample_binder.specs.Due.{is_known, has_case_after, may_leave}
 use Rattle.sample_binder.specs.Events.{Event, packets_of, has_ended, line_after}
-use Rattle.sample_binder.specs.Left.{runs_left_of, IsLeaving}
+use Rattle.sample_binder.specs.Left.{runs_left_of, IsLeaving, decided}
 use Rattle.sample_binder.specs.Outputs.{open_reason, packet_and_runs, outputs}
 use Rattle.sample_binder.specs.Sound.{HasSampling}
 
@@ -73,3 +75,9 @@ pub record IsState (state : State) : Type 0 where
   pub sound : AreSound state.line.kept
   pub shapes : AreShapes state.queue
   pub leaving : IfSome state.leaving (IsLeaving state.line (open_reason state.ended))
+
+-- how the first of the packets that wait leaves, where it need not wait
+abbrev pub first_decided : ℕ → Line → Bool → List Pending → Option Leaving
+first_decided pending line ended [] = None
+first_decided pending line ended (packet ∷ rest) =
+    decided line packet.shape (nat_lt pending (length (packet ∷ rest)) || ended) (open_reason ended) (mark_in line (moment_of packet.shape.stamp))

@@ -3,11 +3,13 @@
 
 mod clock;
 mod cut;
+mod decide;
 mod label;
 mod leaving;
 mod limits;
 mod out;
 mod pending;
+mod queue;
 mod reason;
 mod run;
 mod runs;
