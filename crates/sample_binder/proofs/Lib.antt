@@ -2,3 +2,4 @@ pub mod ClockLemmas
 pub mod SampleLemmas
 pub mod CutLemmas
 pub mod RunLemmas
+pub mod StateLemmas

@@ -17,11 +17,11 @@ some_or_none : (o : Option ℕ) → ((d : ℕ) × (o ≡ Some d)) ⊎ (o ≡ Non
 some_or_none (Some d) = inl (d, refl)
 some_or_none None = inr refl
 
-more_wait : (j pending waiting : ℕ) → nat_lt (j + pending) (j + waiting) ≡ nat_lt pending waiting
+pub more_wait : (j pending waiting : ℕ) → nat_lt (j + pending) (j + waiting) ≡ nat_lt pending waiting
 more_wait j pending waiting = grind (arith, nat_tests)
 
 -- what is at place j, if j are skipped
-first_of : {X : Type 0} (j : ℕ) (xs : List X) (x : X) (rest : List X) → drop j xs ≡ x ∷ rest → (slice_get xs j ≡ Some x) × (drop (suc j) xs ≡ rest)
+pub first_of : {X : Type 0} (j : ℕ) (xs : List X) (x : X) (rest : List X) → drop j xs ≡ x ∷ rest → (slice_get xs j ≡ Some x) × (drop (suc j) xs ≡ rest)
 first_of zero [] x rest e = absurd (cc)
 first_of zero (y ∷ xs) x rest e = let head : y ≡ x = cc in let tail : xs ≡ rest = cc in (ap Some head, tail)
 first_of (suc j) [] x rest e = absurd (cc)
@@ -64,7 +64,7 @@ module _ (limits : Limits) (events : List Event) (event : Event) where
   abbrev n : ℕ
   n = length events
 
-  long : length more ≡ suc n
+  pub long : length more ≡ suc n
   long = length-append events (event ∷ []) ∙ omega arith
 
   same_front : (k : ℕ) → k < n → take (suc k) more ≡ take (suc k) events
@@ -80,10 +80,10 @@ module _ (limits : Limits) (events : List Event) (event : Event) where
   case_at : (j : ℕ) → has_case_after limits more j n ≡ has_case limits more j (slice_get (packets_of more) j)
   case_at j = ap (λ (es : List Event). has_case limits es j (slice_get (packets_of es) j)) all_of_them
 
-  old_when : (j : ℕ) → may_leave (has_case_after limits more) n j ≡ may_leave (has_case_after limits events) n j
+  pub old_when : (j : ℕ) → may_leave (has_case_after limits more) n j ≡ may_leave (has_case_after limits events) n j
   old_when j = may_leave-same (has_case_after limits more) n (has_case_after limits events) case_before j
 
-  new_when : (j : ℕ) → may_leave (has_case_after limits more) (length more) j ≡ may_leave (has_case_after limits more) (suc n) j
+  pub new_when : (j : ℕ) → may_leave (has_case_after limits more) (length more) j ≡ may_leave (has_case_after limits more) (suc n) j
   new_when j = ap (λ m. may_leave (has_case_after limits more) m j) long
 
   -- a packet that was due leaves as it did

@@ -81,3 +81,8 @@ abbrev pub first_decided : ℕ → Line → Bool → List Pending → Option Lea
 first_decided pending line ended [] = None
 first_decided pending line ended (packet ∷ rest) =
     decided line packet.shape (nat_lt pending (length (packet ∷ rest)) || ended) (open_reason ended) (mark_in line (moment_of packet.shape.stamp))
+
+-- and there is room for one more than may wait
+pub record IsBinding (state : State) (capacity : ℕ) : Type 0 where
+  pub is_state : IsState state
+  pub room_kept : state.pending + 1 ≤ capacity

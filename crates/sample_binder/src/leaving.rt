@@ -3,6 +3,7 @@ use crate::sampled::Sampled;
 use vrt_time::Stamp;
 
 /// What is left of a packet that leaves.
+#[derive(Clone, Copy)]
 pub(crate) enum Leaving {
     /// The packet as a whole.
     Raw {

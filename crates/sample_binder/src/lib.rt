@@ -1,6 +1,7 @@
 //! Binds the samples of a stream's data packets to the contexts in force when they were captured.
 #![tactic(auto)]
 
+mod binding;
 mod clock;
 mod cut;
 mod decide;
