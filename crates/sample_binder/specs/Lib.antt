@@ -12,3 +12,4 @@ pub mod FirstLaws
 pub mod DueLaws
 pub mod Queue
 pub mod OutputLaws
+pub mod Steps

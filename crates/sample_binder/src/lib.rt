@@ -5,6 +5,7 @@ mod binding;
 mod clock;
 mod cut;
 mod decide;
+mod give;
 mod label;
 mod leaving;
 mod limits;
