@@ -3,3 +3,4 @@ pub mod SampleLemmas
 pub mod CutLemmas
 pub mod RunLemmas
 pub mod StateLemmas
+pub mod GiveLemmas

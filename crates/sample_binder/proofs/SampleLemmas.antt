@@ -47,3 +47,16 @@ number_told shape bits (Some count) b some none = sym (number_of-held shape bits
 pub number_some : (shape : Shape) (bits : ℕ) (o : Option ℕ) → IfSome o (HoldsSamples shape.words shape.pad bits) → IfSome o (λ n. 0 < n)
 number_some shape bits None some = tt
 number_some shape bits (Some count) some = some.some
+
+counted : (b : Bool) (m n : ℕ) → cond b (Some m) None ≡ Some n → (b ≡ true) × (m ≡ n)
+counted true m n e = (refl, (cc))
+counted false m n e = absurd (cc)
+
+-- there is one sample at least
+pub number_positive : (shape : Shape) (bits n : ℕ) → 0 < bits → number_of shape bits ≡ Some n → 0 < n
+number_positive shape bits n b e =
+    let used = used_bits shape in
+    let h = counted (nat_lt 0 used && used % (2 * bits) == 0) (used / (2 * bits)) n e in
+    let p = untested used (2 * bits) h.0 in
+    let w = whole used (2 * bits) (omega arith) p.0 p.1 in
+    omega (arith, w.0, h.1)

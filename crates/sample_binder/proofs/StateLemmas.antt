@@ -54,11 +54,11 @@ has_ended-append (EndEvent ∷ xs) ys = refl
 
 -- ---- where nothing is owed
 
-append_empty : {X : Type 0} (xs ys : List X) → xs ++ ys ≡ [] → (xs ≡ []) × (ys ≡ [])
+pub append_empty : {X : Type 0} (xs ys : List X) → xs ++ ys ≡ [] → (xs ≡ []) × (ys ≡ [])
 append_empty [] ys e = (refl, e)
 append_empty (x ∷ xs) ys e = absurd (cc)
 
-map_empty : {X Y : Type 0} (f : X → Y) (xs : List X) → map f xs ≡ [] → xs ≡ []
+pub map_empty : {X Y : Type 0} (f : X → Y) (xs : List X) → map f xs ≡ [] → xs ≡ []
 map_empty f [] e = refl
 map_empty f (x ∷ xs) e = absurd (cc)
 
@@ -68,7 +68,7 @@ cut_some labels number first (suc n) e lt f =
     absurd (cc (ap (λ b. cond b ((first, next_start labels number first - first) ∷ cut_from labels number (suc first) n) (cut_from labels number (suc first) n)) e))
 
 -- what leaves has a run
-leaves_some : (line : Line) (why : Reason) (l : Leaving) → IsLeaving line why l → runs_left line why l ≢ []
+pub leaves_some : (line : Line) (why : Reason) (l : Leaving) → IsLeaving line why l → runs_left line why l ≢ []
 leaves_some line why (leaving.Raw reason stamp pad) h e = absurd (cc)
 leaves_some line why (leaving.Cut samples first) h e =
     cut_some (label_at line why samples.stamp samples.fields) samples.number first (samples.number - first) h.start (omega (arith, h.there))
@@ -116,7 +116,7 @@ idle state h e =
 -- ---- one more event
 
 -- after these events nothing is left to leave: so no packet that waits is due
-case_last : (limits : Limits) (events : List Event) (j m : ℕ) → length events ≡ suc m
+pub case_last : (limits : Limits) (events : List Event) (j m : ℕ) → length events ≡ suc m
     → has_case_after limits events j m ≡ has_case limits events j (slice_get (packets_of events) j)
 case_last limits events j m e =
     ap (λ (es : List Event). has_case limits es j (slice_get (packets_of es) j)) (take_all (suc m) events (omega arith))

@@ -7,11 +7,11 @@ ghost use Rattle.sample_binder.specs.Events.{Event, ContextEvent, DataEvent, End
 ghost use Rattle.sample_binder.specs.Outputs.{outputs};
 ghost use Rattle.sample_binder.specs.Queue.{owed, StandsFor, IsShape};
 
+use crate::give::{give_packet, give_run};
 use crate::leaving::Leaving;
 use crate::out::Out;
 use crate::pending::Pending;
-use crate::queue::{decide_first, why_open};
-use crate::runs::next_run;
+use crate::queue::decide_first;
 use context_timeline::Timeline;
 use difi_context::ContextRec;
 use std::alloc::Global;
@@ -97,5 +97,36 @@ impl Binding {
             → StandsFor self.new limits (events ++ EndEvent ∷ []) taken }
     {
         self.ended = true;
+    }
+
+    /// The next that is due: a packet, and then its runs. `None` exactly where nothing is owed.
+    pub(crate) fn next_out(&mut self) -> Option<Out>
+        ensures given { IfSome result (λ given. owed self.old ≡ given ∷ owed self.new) }
+        ensures none { IfNone result (owed self.old ≡ []) }
+        ensures same { IfNone result (self.new ≡ self.old) }
+        ensures line { self.new.line ≡ self.old.line }
+        ensures limit { self.new.pending ≡ self.old.pending }
+        ensures ended { self.new.ended ≡ self.old.ended }
+        ensures history { (limits : Limits) (events : List Event) (taken : ℕ) → StandsFor self.old limits events taken
+            → OnSome result (StandsFor self.new limits events (taken + 1)) }
+    {
+        if let Some(run) = give_run(&self.timeline, &mut self.leaving, self.ended) {
+            return Some(Out::Run(run));
+        }
+        give_packet(
+            &self.timeline,
+            &mut self.queue,
+            &mut self.leaving,
+            self.pending,
+            self.ended,
+        )
+    }
+
+    /// Whether something is owed.
+    pub(crate) fn owes(&self) -> bool
+        ensures { IsTrue result ↔ (owed self.now ≢ []) }
+    {
+        self.leaving.is_some()
+            || decide_first(&self.timeline, &self.queue, self.pending, self.ended).is_some()
     }
 }
