@@ -4,3 +4,4 @@ pub mod CutLemmas
 pub mod RunLemmas
 pub mod StateLemmas
 pub mod GiveLemmas
+pub mod ArrivalLemmas

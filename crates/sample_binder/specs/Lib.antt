@@ -13,3 +13,7 @@ pub mod DueLaws
 pub mod Queue
 pub mod OutputLaws
 pub mod Steps
+pub mod Calls
+pub mod Arrivals
+pub mod Given
+pub mod Released

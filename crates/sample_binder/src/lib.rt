@@ -1,10 +1,12 @@
 //! Binds the samples of a stream's data packets to the contexts in force when they were captured.
 #![tactic(auto)]
 
+mod arrive;
 mod binding;
 mod clock;
 mod cut;
 mod decide;
+mod front;
 mod give;
 mod label;
 mod leaving;
@@ -13,6 +15,7 @@ mod out;
 mod pending;
 mod queue;
 mod reason;
+mod release;
 mod run;
 mod runs;
 mod sampled;
