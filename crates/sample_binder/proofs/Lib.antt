@@ -5,3 +5,4 @@ pub mod RunLemmas
 pub mod StateLemmas
 pub mod GiveLemmas
 pub mod ArrivalLemmas
+pub mod BinderLemmas

@@ -17,3 +17,5 @@ pub mod Calls
 pub mod Arrivals
 pub mod Given
 pub mod Released
+pub mod Binder
+pub mod PrefixLaws

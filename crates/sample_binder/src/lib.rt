@@ -2,6 +2,7 @@
 #![tactic(auto)]
 
 mod arrive;
+mod binder;
 mod binding;
 mod clock;
 mod cut;
@@ -23,6 +24,7 @@ mod sampling;
 mod shape;
 mod turned;
 
+pub use crate::binder::Binder;
 pub use crate::limits::Limits;
 pub use crate::out::Out;
 pub use crate::reason::Reason;
