@@ -1,5 +1,5 @@
 -- What a contract sees of a binder, and what it stands for.
-use Rattle.std.specs.Prelude.{◌≡◌, ℕ, ◌+◌, ◌<◌, ◌≤◌, ◌^◌, Bool, true, false, if◌then◌else◌, List, [], ◌∷◌, ◌++◌, length, map}
+use Rattle.std.specs.Prelude.{◌≡◌, ℕ, ◌+◌, ◌<◌, ◌≤◌, ◌^◌, Bool, true, false, if◌then◌else◌, List, [], ◌∷◌, ◌++◌, length, map, Result, Ok, Err}
 use Rattle.std.specs.List.{AllByRecursion}
 use Rattle.vrt_words.specs.Buffer.{Buffer}
 use Rattle.vrt_header.specs.Profile.{PacketProfile}
@@ -10,6 +10,7 @@ use Rattle.reorder_window.specs.State as window
 use Rattle.reorder_window.specs.State.{Holding}
 use Rattle.reorder_window.specs.Window.{accepted, releases}
 use Rattle.sample_binder.specs.declared.limits.Limits.{Limits}
+use Rattle.sample_binder.specs.declared.turned.Turned.{Turned}
 use Rattle.sample_binder.specs.Calls.{Call, context_arrivals, data_arrivals, is_told, context_event, data_event, behind, all_releases, events_of}
 use Rattle.sample_binder.specs.Events.{Event, EndEvent}
 use Rattle.sample_binder.specs.Given.{IsContextEntry, IsDataEntry}
@@ -96,3 +97,18 @@ pub record IsBound (bound : Bound) : Type 0 where
   pub seen : AreSeen bound.limits.kept bound.given bound.contexts bound.packets bound.state.line bound.told
   pub running : bound.told ≡ false → bound.state.ended ≡ false
   pub at_rest : bound.told ≡ true → owed bound.state ≡ [] → bound.state.ended ≡ true
+
+-- the answers that are given to the caller, without what is released
+abbrev pub without_packet : {R T : Type 0} → Result R (Turned × T) → Result (Unit {0}) Turned
+without_packet (Ok released) = Ok tt
+without_packet (Err e) = Err e.0
+
+abbrev pub without_release : {R E : Type 0} → Result R E → Result (Unit {0}) E
+without_release (Ok released) = Ok tt
+without_release (Err e) = Err e
+
+-- what stays while packets are given
+pub record SameBinder (old new : Bound) : Type 0 where
+  pub profile : new.profile ≡ old.profile
+  pub limits : new.limits ≡ old.limits
+  pub told : new.told ≡ old.told

@@ -1,15 +1,18 @@
-ghost use Rattle.std.specs.Prelude.{◌≡◌, ◌≢◌, ℕ, ◌+◌, ◌<◌, ◌≤◌, ◌^◌, ◌↔◌, true, false, List, [], ◌∷◌, ◌++◌, length, slice_get, bytes_eq, Result, IsTrue, IfOk, IfErr, OnErr, OnSome, IfNone};
+ghost use Rattle.std.specs.Prelude.{◌≡◌, ◌≢◌, ℕ, ◌+◌, ◌<◌, ◌≤◌, ◌^◌, ◌↔◌, true, false, List, [], ◌∷◌, ◌++◌, length, slice_get, bytes_eq, Result, IsTrue, IfOk, IfErr, OnOk, OnErr, OnSome, IfNone};
 ghost use Rattle.difi_context.specs.Context.{IsSpelled};
 ghost use Rattle.reorder_window.specs.Window.{answer};
-ghost use Rattle.sample_binder.specs.Calls.{Call, ContextCall, DataCall, EndCall, context_arrivals, data_arrivals, context_entry, data_entry, outputs_of};
+ghost use Rattle.sample_binder.specs.Calls.{Call, ContextCall, DataCall, EndCall, context_arrivals, data_arrivals, context_entry, data_entry, outputs_of, outcome};
 ghost use Rattle.sample_binder.specs.Queue.{owed};
 ghost use Rattle.sample_binder.specs.Given.{IsDataOf};
-ghost use Rattle.sample_binder.specs.Binder.{AreLimits, StandsFor};
+ghost use Rattle.sample_binder.specs.Binder.{AreLimits, StandsFor, SameBinder, without_packet, without_release};
 
+use crate::arrive::{arrive_context, arrive_data};
 use crate::binding::Binding;
 use crate::limits::Limits;
+use crate::release::{give_context, give_data};
+use crate::turned::Turned;
 use difi_context::ContextRec;
-use reorder_window::Window;
+use reorder_window::{HeldItem, Window};
 use std::alloc::Global;
 use std::marker::Model;
 use vrt_header::Profile;
@@ -67,6 +70,60 @@ impl Binder {
                 told: false,
             }),
             Err(_) => Err(NoMemory),
+        }
+    }
+
+    /// Takes a context packet that has arrived.
+    ///
+    /// `Err` exactly where the window for contexts turns it away, and then nothing has changed.
+    pub fn context(&mut self, rec: ContextRec) -> Result<(), Turned>
+        requires grammar { IsSpelled self.old.profile rec }
+        requires nothing { owed self.old.state ≡ [] }
+        requires untold { self.old.told ≡ false }
+        requires few { self.old.given < 2 ^ 63 }
+        ensures answer { (calls : List Call) (taken : ℕ) → StandsFor self.old calls taken → result ≡ without_packet (outcome
+            (answer ⟦<ContextRec as HeldItem>⟧.is_same self.old.limits.context_window (context_arrivals calls) (context_entry rec))) }
+        ensures stands { (calls : List Call) (taken : ℕ) → StandsFor self.old calls taken
+            → StandsFor self.new (calls ++ ContextCall rec ∷ []) taken }
+        ensures kept { SameBinder self.old self.new }
+        ensures given { OnOk result (self.new.given ≡ self.old.given + 1) }
+        ensures err { OnErr result (self.new ≡ self.old) }
+    {
+        match arrive_context(&mut self.contexts, rec) {
+            Ok(released) => {
+                give_context(&mut self.binding, released);
+                self.given += 1;
+                Ok(())
+            }
+            Err((turned, _)) => Err(turned),
+        }
+    }
+
+    /// Takes the buffer of a data packet that has arrived.
+    ///
+    /// `Err` exactly where the window for data packets turns it away: the buffer comes back, and
+    /// nothing has changed.
+    pub fn data(&mut self, buf: PacketBuf) -> Result<(), (Turned, PacketBuf)>
+        requires grammar { IsDataOf self.old.profile buf.bytes }
+        requires nothing { owed self.old.state ≡ [] }
+        requires untold { self.old.told ≡ false }
+        requires few { self.old.given < 2 ^ 63 }
+        ensures answer { (calls : List Call) (taken : ℕ) → StandsFor self.old calls taken → result ≡ without_release (outcome
+            (answer ⟦<PacketBuf as HeldItem>⟧.is_same self.old.limits.data_window (data_arrivals calls) (data_entry buf))) }
+        ensures stands { (calls : List Call) (taken : ℕ) → StandsFor self.old calls taken
+            → StandsFor self.new (calls ++ DataCall buf ∷ []) taken }
+        ensures kept { SameBinder self.old self.new }
+        ensures given { OnOk result (self.new.given ≡ self.old.given + 1) }
+        ensures buffer { IfErr result (λ turned. turned.1 ≡ buf) }
+        ensures err { OnErr result (self.new ≡ self.old) }
+    {
+        match arrive_data(&mut self.packets, buf) {
+            Ok(released) => {
+                give_data(&mut self.binding, released);
+                self.given += 1;
+                Ok(())
+            }
+            Err(turned) => Err(turned),
         }
     }
 }
