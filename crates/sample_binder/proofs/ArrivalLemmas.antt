@@ -1,5 +1,5 @@
 -- What arrivals at a window, and draining it, make of its releases.
-use Rattle.std.proofs.Common.{◌≡◌, ◌≢◌, ◌⊎◌, ℕ, suc, zero, ◌+◌, ◌-◌, ◌<◌, ◌≤◌, min, ◌&&◌, ◌==◌, not, nat_le, nat_lt, Bool, true, false, cond, List, [], ◌∷◌, ◌++◌, length, take, drop, fold, Option, Some, None, is_none, IfSome, IfNone, refl, sym, ap, ◌∙◌, subst, inl, inr, arith, length-append, length-drop, append_assoc}
+use Rattle.std.proofs.Common.{◌≡◌, ◌≢◌, ◌⊎◌, ℕ, suc, zero, ◌+◌, ◌-◌, ◌<◌, ◌≤◌, min, ◌&&◌, ◌==◌, not, nat_le, nat_lt, Bool, true, false, cond, List, [], ◌∷◌, ◌++◌, length, take, drop, fold, Option, Some, None, Result, Ok, Err, is_none, IfSome, IfNone, refl, sym, ap, ◌∙◌, subst, inl, inr, arith, length-append, length-drop, append_assoc}
 use Rattle.std.proofs.lemmas.List.{append-nil, length-take-le, nil_from_length}
 use Rattle.std.proofs.lemmas.List.Sums.{fold-append}
 use Rattle.std.proofs.Math.Seq.{drop-append_seam}
@@ -11,8 +11,10 @@ use Rattle.reorder_window.specs.declared.arrival.Arrival.{Arrival}
 use Rattle.reorder_window.specs.declared.arrival.Arrival.TheVariants as arrival
 use Rattle.reorder_window.specs.State.{Holding, StandsFor, last_of}
 use Rattle.reorder_window.specs.Window.{AreFalling, boundary, is_late, twin, is_accepted, in_place, with_arrival, accepted, number_held, held, released, answer_twin, answer_accepted, answer_above, answer_by, answer, release, in_order, releases}
+use Rattle.sample_binder.specs.declared.turned.Turned.{Turned}
+use Rattle.sample_binder.specs.declared.turned.Turned.TheVariants as turned
 use Rattle.sample_binder.specs.Cases.{tested}
-use Rattle.sample_binder.specs.Calls.{behind, all_releases}
+use Rattle.sample_binder.specs.Calls.{behind, all_releases, outcome}
 
 off : (late : Bool) (none : Bool) → none ≡ false → (not late && none) ≡ false
 off true none e = refl
@@ -36,6 +38,9 @@ one_last (z ∷ xs) (w ∷ ys) x y e =
     let h = one_last xs ys x y tail in
     let same : z ∷ xs ≡ w ∷ ys = cc (head, h.0) in
     (same, h.1)
+
+err_is : {R E : Type 0} (x y : E) → ◌≡◌ {A = Result R E} (Err x) (Err y) → x ≡ y
+err_is x y e = cc
 
 module _ {T : Type 0} where
   pub accepted-more : (size : ℕ) (arrivals : List (Entry T)) (a : Entry T) → accepted size (arrivals ++ a ∷ []) ≡ with_arrival size (accepted size arrivals) a
@@ -187,3 +192,43 @@ module _ {T : Type 0} where
   releases-within size arrivals drained =
       let n = number_held size arrivals drained in
       omega (arith, length-in_order (drop n (accepted size arrivals)), length-drop n (accepted size arrivals))
+
+  -- what is turned away is what arrived
+  abbrev HandsBack : Entry T → Arrival T → Type 0
+  HandsBack a arrival.Kept = Unit {0}
+  HandsBack a (arrival.Released stamp lost item) = Unit {0}
+  HandsBack a (arrival.Late stamp item) = item ≡ a.item
+  HandsBack a (arrival.Repeat item) = item ≡ a.item
+  HandsBack a (arrival.Conflict count item) = item ≡ a.item
+
+  back_accepted : (a : Entry T) (after : List (Entry T)) → HandsBack a (answer_accepted after)
+  back_accepted a [] = tt
+  back_accepted a (x ∷ xs) = tt
+
+  back_twin : (a b : Entry T) (t : Bool) → HandsBack a (cond t (arrival.Repeat a.item) (arrival.Conflict b.count a.item))
+  back_twin a b true = refl
+  back_twin a b false = refl
+
+  back_above : (same : T → T → Bool) (a : Entry T) (o : Option (Entry T)) (after : List (Entry T)) → HandsBack a (answer_above same a o after)
+  back_above same a None after = back_accepted a after
+  back_above same a (Some b) after = back_twin a b (same b.item a.item)
+
+  back_late : (same : T → T → Bool) (a : Entry T) (late : Bool) (stamp : TimeStamp) (o : Option (Entry T)) (after : List (Entry T)) → HandsBack a (cond late (arrival.Late stamp a.item) (answer_above same a o after))
+  back_late same a true stamp o after = refl
+  back_late same a false stamp o after = back_above same a o after
+
+  back_by : (same : T → T → Bool) (a : Entry T) (limit : Option TimeStamp) (o : Option (Entry T)) (after : List (Entry T)) → HandsBack a (answer_by same a limit o after)
+  back_by same a None o after = back_above same a o after
+  back_by same a (Some stamp) o after = back_late same a (is_late (Some stamp) a) stamp o after
+
+  back_outcome : (a : Entry T) (given : Arrival T) (e : Turned × T) → HandsBack a given → outcome given ≡ Err e → e.1 ≡ a.item
+  back_outcome a arrival.Kept e h f = absurd (cc)
+  back_outcome a (arrival.Released stamp lost item) e h f = absurd (cc)
+  back_outcome a (arrival.Late stamp item) e h f = let same : (turned.Late stamp, item) ≡ e = err_is (turned.Late stamp, item) e f in sym (ap (λ (p : Turned × T). p.1) same) ∙ h
+  back_outcome a (arrival.Repeat item) e h f = let same : (turned.Repeat, item) ≡ e = err_is (turned.Repeat, item) e f in sym (ap (λ (p : Turned × T). p.1) same) ∙ h
+  back_outcome a (arrival.Conflict count item) e h f = let same : (turned.Conflict count, item) ≡ e = err_is (turned.Conflict count, item) e f in sym (ap (λ (p : Turned × T). p.1) same) ∙ h
+
+  pub handed_back : (same : T → T → Bool) (size : ℕ) (arrivals : List (Entry T)) (a : Entry T) (e : Turned × T) → Err e ≡ outcome (answer same size arrivals a) → e.1 ≡ a.item
+  handed_back same size arrivals a e f =
+      let xs = accepted size arrivals in
+      back_outcome a (answer same size arrivals a) e (back_by same a (boundary size xs) (twin a (held size arrivals 0)) (released size (arrivals ++ a ∷ []) 0)) (sym f)

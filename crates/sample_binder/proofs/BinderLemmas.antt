@@ -1,11 +1,17 @@
 -- What the calls of a binder make of it.
-use Rattle.std.proofs.Common.{◌≡◌, ◌≢◌, ◌⊎◌, ℕ, suc, zero, ◌+◌, ◌-◌, ◌<◌, ◌≤◌, ◌^◌, ◌||◌, Bool, true, false, cond, List, [], ◌∷◌, ◌++◌, length, take, drop, map, slice_get, Option, Some, None, Result, Ok, Err, IfSome, IfNone, OnSome, OnErr, option_map, refl, sym, ap, ◌∙◌, subst, inl, inr, arith, length-append, length-drop, append_assoc}
-use Rattle.std.proofs.lemmas.List.{append-nil, map-append, length-map}
+use Rattle.std.proofs.Common.{◌≡◌, ◌≢◌, ◌⊎◌, ℕ, suc, zero, ◌+◌, ◌-◌, ◌<◌, ◌≤◌, ◌^◌, ◌||◌, Bool, true, false, cond, List, [], ◌∷◌, ◌++◌, length, take, drop, map, get_or, slice_get, Option, Some, None, Result, Ok, Err, IfSome, IfNone, OnSome, OnErr, option_map, refl, sym, ap, ◌∙◌, subst, inl, inr, arith, length-append, length-drop, append_assoc}
+use Rattle.std.proofs.lemmas.List.{append-nil, map-append, length-map, length-take, get_or-take}
 use Rattle.std.specs.List.{AllByRecursion}
 use Rattle.vrt_words.specs.Buffer.{Buffer}
-use Rattle.vrt_time.specs.Time.{TimeStamp, moment_of}
+use Rattle.vrt_time.specs.Time.{TimeStamp, moment_of, fraction_of}
 use Rattle.difi_context.specs.Context.{IsInGrammar, IsSpelled}
+use Rattle.vrt_words.specs.Words.{words_of}
 use Rattle.vrt_header.specs.Profile.{PacketProfile}
+use Rattle.vrt_header.specs.Header.{is_size}
+use Rattle.vrt_header.specs.Prologue.{IsStamped}
+use Rattle.vrt_header.specs.declared.header.Kind.{Kind}
+use Rattle.vrt_header.specs.declared.header.Kind.TheVariants.{Data}
+use Rattle.difi_data.specs.DataLaws.{seven_words, data_timed}
 use Rattle.difi_context.specs.declared.context.ContextRec.{ContextRec}
 use Rattle.context_timeline.specs.declared.timed_context.TimedContext.{TimedContext}
 use Rattle.context_timeline.specs.Line.{Line, line_of, with_context, horizon_of, stamp_in}
@@ -23,13 +29,13 @@ use Rattle.sample_binder.specs.Arrivals.{released_list, releases_by, Takes}
 use Rattle.sample_binder.specs.Binder.{Bound, IsBound, Follows, AreContextsSeen, ArePacketsSeen, AreSeen, left_events, end_events}
 use Rattle.sample_binder.specs.Calls.{Call, ContextCall, DataCall, EndCall, context_arrivals, data_arrivals, context_entry, data_entry, is_told, context_event, data_event, behind, all_releases, events_by, events_from, events_of, outputs_of, outcome}
 use Rattle.sample_binder.specs.Events.{Event, ContextEvent, DataEvent, EndEvent, has_ended}
-use Rattle.sample_binder.specs.Given.{IsContextEntry, IsDataEntry, IsDataBytes, IsLater}
+use Rattle.sample_binder.specs.Given.{IsContextEntry, IsDataEntry, IsDataBytes, IsDataOf, IsLater}
 use Rattle.sample_binder.specs.Outputs.{outputs}
 use Rattle.sample_binder.specs.PrefixLaws.{outputs-prefix}
 use Rattle.sample_binder.specs.Queue.{State, owed}
 use Rattle.sample_binder.specs.Queue as queue
 use Rattle.sample_binder.specs.Released.{released_context, with_released, released_packet, queue_with}
-use Rattle.sample_binder.proofs.ArrivalLemmas.{accepted-one, accepted-nil, behind-append, all_split, drained_first, none_left, newest, falling-drop, each-drop, releases-within}
+use Rattle.sample_binder.proofs.ArrivalLemmas.{accepted-one, accepted-nil, behind-append, all_split, drained_first, none_left, newest, falling-drop, each-drop, releases-within, handed_back}
 
 -- ---- opening
 
@@ -299,3 +305,115 @@ grammar_of rec profile h = record { profile = profile; spelled = h }
 abbrev pub same_but : PacketProfile → Limits → Holding ContextRec → Holding Buffer → State → ℕ → Bool → Bound
 same_but profile limits contexts packets state given told =
     record { profile = profile; limits = limits; contexts = contexts; packets = packets; state = state; given = given; told = told }
+
+-- ---- data packets
+
+size_told : (kind : Kind) (timed : Bool) (size : ℕ) → is_size kind timed size ≡ true → kind ≡ Data → size ≤ 16376
+size_told Data timed size h e = grind arith
+size_told kind timed size h e = absurd (cc)
+
+stamped : (timed : Bool) (stamp : Option TimeStamp) (words : List ℕ) → IsStamped timed stamp words → timed ≡ true → fraction_of (get_or words 5 0) (get_or words 6 0) < 10 ^ 12
+stamped true stamp words h e = h.0
+stamped false stamp words h e = absurd (cc)
+
+-- what is read of a data packet is there
+pub data_bytes : (profile : PacketProfile) (bytes : List ℕ) → IsDataOf profile bytes → IsDataBytes bytes
+data_bytes profile bytes h =
+    let words = words_of bytes in
+    let p = h.packet.prologue in
+    let d = h.datagram.packet in
+    let seven : length (take 7 words) ≡ 7 = seven_words profile p (take 7 words) d.prologue d.kind in
+    let timed = data_timed profile.tsi p.header.kind p.header.timed (get_or (take 7 words) 0 0) d.prologue.header.time d.kind in
+    let fraction = stamped p.header.timed p.stamp (take 7 words) d.prologue.stamp timed in
+    record {
+      enough = omega (arith, length-take 7 words);
+      most = omega (arith, d.size, size_told p.header.kind p.header.timed p.header.size d.prologue.header.size_allowed d.kind);
+      fraction = omega (arith, get_or-take 7 words 5 0 (omega arith), get_or-take 7 words 6 0 (omega arith));
+    }
+
+-- the last of the items is so too
+last_one : {X : Type 0} (P : X → Type 0) (xs : List X) (x : X) → AllByRecursion P (xs ++ x ∷ []) → P x
+last_one P [] x h = h.0
+last_one P (y ∷ xs) x h = last_one P xs x h.1
+
+fronts_of : (arrivals : List (Entry Buffer)) → AllByRecursion IsDataEntry arrivals → AllByRecursion (λ (a : Entry Buffer). IsDataBytes a.item.bytes) arrivals
+fronts_of [] h = tt
+fronts_of (a ∷ arrivals) h = (h.0.front, fronts_of arrivals h.1)
+
+pub data_of : (size : ℕ) (arrivals : List (Entry Buffer)) (drained : ℕ) (before : List (TimeStamp × ℕ × Buffer)) (given : TimeStamp × ℕ × Buffer) → AllByRecursion IsDataEntry arrivals
+    → releases size arrivals drained ≡ before ++ given ∷ [] → IsDataBytes given.2.bytes
+data_of size arrivals drained before given entries e =
+    let fronts : AllByRecursion (λ (r : TimeStamp × ℕ × Buffer). IsDataBytes r.2.bytes) (releases size arrivals drained) =
+    every-release (λ stamp item. IsDataBytes item.bytes) size arrivals drained (fronts_of arrivals entries) in
+    last_one (λ (r : TimeStamp × ℕ × Buffer). IsDataBytes r.2.bytes) before given (subst (AllByRecursion (λ (r : TimeStamp × ℕ × Buffer). IsDataBytes r.2.bytes)) e fronts)
+
+module _ (same : Buffer → Buffer → Bool) (old new : Holding Buffer) (told : Bool) (buf : Buffer)
+    (result : Result (Option (TimeStamp × ℕ × Buffer)) (Turned × Buffer)) (seen : ArePacketsSeen old told) (off : told ≡ false)
+    (takes : (arrivals : List (Entry Buffer)) → window.StandsFor old arrivals 0 → Takes same old new arrivals (data_entry buf) result) (front : IsDataBytes buf.bytes) where
+  data_taken : Takes same old new seen.arrivals (data_entry buf) result
+  data_taken = takes seen.arrivals (seen_now old seen.arrivals seen.drained told seen.stands seen.undrained off)
+
+  data_entries : AllByRecursion IsDataEntry (seen.arrivals ++ data_entry buf ∷ [])
+  data_entries = every-push IsDataEntry seen.arrivals (data_entry buf) seen.entries (record { stamp = refl; front = front })
+
+  front_some : (released : Option (TimeStamp × ℕ × Buffer)) → releases old.size (seen.arrivals ++ data_entry buf ∷ []) 0 ≡ releases old.size seen.arrivals 0 ++ released_list released
+      → IfSome released (λ r. IsDataBytes r.2.bytes)
+  front_some None e = tt
+  front_some (Some r) e = data_of old.size (seen.arrivals ++ data_entry buf ∷ []) 0 (releases old.size seen.arrivals 0) r data_entries e
+
+  pub front_released : (released : Option (TimeStamp × ℕ × Buffer)) → result ≡ Ok released → IfSome released (λ r. IsDataBytes r.2.bytes)
+  front_released released e =
+      front_some released (data_taken.given ∙ ap (λ (r : Result (Option (TimeStamp × ℕ × Buffer)) (Turned × Buffer)). releases old.size seen.arrivals 0 ++ releases_by r) e)
+
+  pub seen_data : ArePacketsSeen new told
+  seen_data = record { arrivals = seen.arrivals ++ data_entry buf ∷ []; drained = 0; stands = data_taken.stands; undrained = λ h. refl; entries = data_entries }
+
+  pub turned_data : (e : Turned × Buffer) → result ≡ Err e → new ≡ old
+  turned_data e f = err_same result e (new ≡ old) f data_taken.unchanged
+
+  pub buffer_back : (e : Turned × Buffer) → result ≡ Err e → e.1 ≡ buf
+  buffer_back e f = handed_back same old.size seen.arrivals (data_entry buf) e (sym f ∙ data_taken.answered)
+
+module _ (same : Buffer → Buffer → Bool) (limits : Limits) (old new : Holding Buffer) (contexts : Holding ContextRec) (state after : State) (told : Bool) (buf : Buffer)
+    (result : Result (Option (TimeStamp × ℕ × Buffer)) (Turned × Buffer)) (off : told ≡ false)
+    (takes : (arrivals : List (Entry Buffer)) → window.StandsFor old arrivals 0 → Takes same old new arrivals (data_entry buf) result) (size : new.size ≡ old.size)
+    (calls : List Call) (taken : ℕ) (h : Follows limits contexts old state told calls taken) where
+  data_calls_taken : Takes same old new (data_arrivals calls) (data_entry buf) result
+  data_calls_taken = takes (data_arrivals calls) (seen_now old (data_arrivals calls) h.packets_drained told h.packets_stand (λ e. (h.undrained e).1) off)
+
+  pub answer_data : result ≡ outcome (answer same limits.data_window (data_arrivals calls) (data_entry buf))
+  answer_data = data_calls_taken.answered ∙ ap (λ n. outcome (answer same n (data_arrivals calls) (data_entry buf))) h.data_size
+
+  pub follows_data : (rs : List (TimeStamp × ℕ × Buffer)) → releases_by result ≡ rs
+      → ((events : List Event) → queue.StandsFor state limits events taken → queue.StandsFor after limits (events ++ map data_event rs) taken)
+      → Follows limits contexts new after told (calls ++ DataCall buf ∷ []) taken
+  follows_data rs e history =
+      let more = calls ++ DataCall buf ∷ [] in
+      let arrivals = data_arrivals-append calls (DataCall buf ∷ []) in
+      let context_same : context_arrivals calls ≡ context_arrivals more = sym (append-nil (context_arrivals calls)) ∙ sym (context_arrivals-append calls (DataCall buf ∷ [])) in
+      let told_same : is_told more ≡ is_told calls = is_told-append calls (DataCall buf ∷ []) ∙ or_false (is_told calls) in
+      let untold : is_told calls ≡ false = sym h.is_told_too ∙ off in
+      let before = releases limits.data_window (data_arrivals calls) 0 in
+      let gains : releases limits.data_window (data_arrivals calls ++ data_entry buf ∷ []) 0 ≡ before ++ rs =
+      ap (λ n. releases n (data_arrivals calls ++ data_entry buf ∷ []) 0) (sym h.data_size) ∙ data_calls_taken.given
+      ∙ ap (λ xs. releases old.size (data_arrivals calls) 0 ++ xs) e ∙ ap (λ n. releases n (data_arrivals calls) 0 ++ rs) h.data_size in
+      let event : events_by limits calls (DataCall buf) ≡ map data_event rs =
+      ap (λ xs. map data_event (behind before xs)) gains ∙ ap (map data_event) (behind-append before rs) in
+      let none : (cs : List Call) (c d : ℕ) (ended : Bool) → is_told cs ≡ false → left_events limits cs c d ended ≡ [] =
+      λ cs c d ended f. ap (λ b. cond b (cond ended [] (end_events limits cs c d)) []) f in
+      let done_is : h.done ≡ events_of limits calls =
+      sym (append-nil h.done) ∙ ap (λ xs. h.done ++ xs) (sym (none calls h.contexts_drained h.packets_drained state.ended untold)) ∙ h.left in
+      record {
+        context_size = h.context_size;
+        data_size = size ∙ h.data_size;
+        contexts_drained = h.contexts_drained;
+        contexts_stand = subst (λ (xs : List (Entry ContextRec)). window.StandsFor contexts xs h.contexts_drained) context_same h.contexts_stand;
+        packets_drained = 0;
+        packets_stand = subst (λ (xs : List (Entry Buffer)). window.StandsFor new xs 0) (sym arrivals) data_calls_taken.stands;
+        is_told_too = h.is_told_too ∙ sym told_same;
+        undrained = λ f. ((h.undrained f).0, refl);
+        done = h.done ++ map data_event rs;
+        queue_stands = history h.done h.queue_stands;
+        left = ap (λ xs. (h.done ++ map data_event rs) ++ xs) (none more h.contexts_drained 0 after.ended (told_same ∙ untold)) ∙ append-nil (h.done ++ map data_event rs)
+            ∙ ap (λ xs. xs ++ map data_event rs) done_is ∙ ap (λ xs. events_of limits calls ++ xs) (sym event) ∙ sym (events_of-more limits calls (DataCall buf));
+      }
