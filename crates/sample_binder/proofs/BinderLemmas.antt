@@ -141,7 +141,7 @@ later_of kept size arrivals drained before given some entries falling e =
     }
 
 -- and the timeline is then that of all
-line_with : (kept : ℕ) (before : List (TimeStamp × ℕ × ContextRec)) (released : Option (TimeStamp × ℕ × ContextRec))
+pub line_with : (kept : ℕ) (before : List (TimeStamp × ℕ × ContextRec)) (released : Option (TimeStamp × ℕ × ContextRec))
     → with_released (line_of kept (map released_context before)) released ≡ line_of kept (map released_context (before ++ released_list released))
 line_with kept before None = ap (λ rs. line_of kept (map released_context rs)) (sym (append-nil before))
 line_with kept before (Some given) =

@@ -6,3 +6,4 @@ pub mod StateLemmas
 pub mod GiveLemmas
 pub mod ArrivalLemmas
 pub mod BinderLemmas
+pub mod DrainLemmas

@@ -42,8 +42,8 @@ pub record Bound : Type 0 where
 abbrev pub end_events : Limits → List Call → ℕ → ℕ → List Event
 end_events limits calls contexts_drained packets_drained =
     map context_event (behind (releases limits.context_window (context_arrivals calls) contexts_drained) (all_releases limits.context_window (context_arrivals calls)))
-    ++ map data_event (behind (releases limits.data_window (data_arrivals calls) packets_drained) (all_releases limits.data_window (data_arrivals calls)))
-    ++ EndEvent ∷ []
+    ++ (map data_event (behind (releases limits.data_window (data_arrivals calls) packets_drained) (all_releases limits.data_window (data_arrivals calls)))
+    ++ EndEvent ∷ [])
 
 abbrev pub left_events : Limits → List Call → ℕ → ℕ → Bool → List Event
 left_events limits calls contexts_drained packets_drained ended =

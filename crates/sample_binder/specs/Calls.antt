@@ -87,8 +87,8 @@ events_by limits before (DataCall buf) =
     map data_event (behind (releases limits.data_window (data_arrivals before) 0) (releases limits.data_window (data_arrivals before ++ data_entry buf ∷ []) 0))
 events_by limits before EndCall =
     map context_event (behind (releases limits.context_window (context_arrivals before) 0) (all_releases limits.context_window (context_arrivals before)))
-    ++ map data_event (behind (releases limits.data_window (data_arrivals before) 0) (all_releases limits.data_window (data_arrivals before)))
-    ++ EndEvent ∷ []
+    ++ (map data_event (behind (releases limits.data_window (data_arrivals before) 0) (all_releases limits.data_window (data_arrivals before)))
+    ++ EndEvent ∷ [])
 
 abbrev pub events_from : Limits → List Call → List Call → List Event
 events_from limits before [] = []

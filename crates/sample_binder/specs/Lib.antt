@@ -19,3 +19,4 @@ pub mod Given
 pub mod Released
 pub mod Binder
 pub mod PrefixLaws
+pub mod Drained

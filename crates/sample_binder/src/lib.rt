@@ -7,6 +7,7 @@ mod binding;
 mod clock;
 mod cut;
 mod decide;
+mod drain;
 mod front;
 mod give;
 mod label;

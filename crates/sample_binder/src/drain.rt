@@ -1,0 +1,68 @@
+ghost use Rattle.std.specs.Prelude.{◌≡◌, ℕ, ◌+◌, ◌<◌, true, false, List, [], length};
+ghost use Rattle.vrt_words.specs.Buffer.{Buffer};
+ghost use Rattle.difi_context.specs.declared.context.ContextRec.{ContextRec};
+ghost use Rattle.reorder_window.specs.State.{Holding};
+ghost use Rattle.sample_binder.specs.declared.limits.Limits.{Limits};
+ghost use Rattle.sample_binder.specs.Calls.{Call};
+ghost use Rattle.sample_binder.specs.Queue.{owed};
+ghost use Rattle.sample_binder.specs.Binder.{AreContextsSeen, ArePacketsSeen, AreSeen, Follows};
+ghost use Rattle.sample_binder.specs.Drained.{MayDrain, steps_left};
+
+use crate::binding::Binding;
+use crate::release::{give_context, give_data};
+use difi_context::ContextRec;
+use reorder_window::{Window, accepted_are_arrivals};
+use vrt_words::PacketBuf;
+
+// The least of the held contexts, if there is one, is an event.
+fn drain_context(contexts: &mut Window<ContextRec>, binding: &mut Binding) -> bool
+    requires seen { MayDrain contexts.old binding.old.line }
+    requires nothing { owed binding.old ≡ [] }
+    requires running { binding.old.ended ≡ false }
+    ensures seen { (kept given : ℕ) → AreContextsSeen kept given contexts.old binding.old.line true
+        → AreContextsSeen kept given contexts.new binding.new.line true }
+    ensures follows { (limits : Limits) (packets : Holding Buffer) (calls : List Call) (taken : ℕ)
+        → Follows limits contexts.old packets binding.old true calls taken
+        → Follows limits contexts.new packets binding.new true calls taken }
+    ensures size { contexts.new.size ≡ contexts.old.size }
+    ensures running { binding.new.ended ≡ false }
+    ensures fewer { result ≡ true → length contexts.new.held + 1 ≡ length contexts.old.held }
+    ensures none { result ≡ false → contexts.new.held ≡ [] }
+    ensures same { result ≡ false → binding.new ≡ binding.old }
+    ensures still { result ≡ false → contexts.new ≡ contexts.old }
+{
+    accepted_are_arrivals::<ContextRec>();
+    match contexts.drain_one() {
+        Some(released) => {
+            give_context(binding, Some(released));
+            true
+        }
+        None => false,
+    }
+}
+
+// The least of the held data packets, if there is one, is an event.
+fn drain_data(packets: &mut Window<PacketBuf>, binding: &mut Binding) -> bool
+    requires seen { ArePacketsSeen packets.old true }
+    requires nothing { owed binding.old ≡ [] }
+    requires running { binding.old.ended ≡ false }
+    ensures seen { ArePacketsSeen packets.new true }
+    ensures follows { (limits : Limits) (contexts : Holding ContextRec) (calls : List Call) (taken : ℕ) → contexts.held ≡ []
+        → Follows limits contexts packets.old binding.old true calls taken
+        → Follows limits contexts packets.new binding.new true calls taken }
+    ensures size { packets.new.size ≡ packets.old.size }
+    ensures line { binding.new.line ≡ binding.old.line }
+    ensures running { binding.new.ended ≡ false }
+    ensures fewer { result ≡ true → length packets.new.held + 1 ≡ length packets.old.held }
+    ensures none { result ≡ false → packets.new.held ≡ [] }
+    ensures same { result ≡ false → binding.new ≡ binding.old }
+    ensures still { result ≡ false → packets.new ≡ packets.old }
+{
+    match packets.drain_one() {
+        Some(released) => {
+            give_data(binding, Some(released));
+            true
+        }
+        None => false,
+    }
+}
