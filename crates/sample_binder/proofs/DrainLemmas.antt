@@ -1,5 +1,5 @@
 -- What draining the windows makes of a binder.
-use Rattle.std.proofs.Common.{◌≡◌, ℕ, suc, zero, ◌+◌, ◌-◌, ◌<◌, ◌≤◌, ◌^◌, Bool, true, false, cond, List, [], ◌∷◌, ◌++◌, length, map, Option, Some, None, IfSome, OnSome, refl, sym, ap, ◌∙◌, subst, arith, length-append, append_assoc}
+use Rattle.std.proofs.Common.{◌≡◌, ◌≢◌, ◌↔◌, IsTrue, ℕ, suc, zero, ◌+◌, ◌-◌, ◌<◌, ◌≤◌, ◌^◌, Bool, true, false, cond, List, [], ◌∷◌, ◌++◌, length, map, Option, Some, None, IfSome, OnSome, refl, sym, ap, ◌∙◌, subst, arith, length-append, append_assoc}
 use Rattle.std.proofs.lemmas.List.{append-nil}
 use Rattle.vrt_words.specs.Buffer.{Buffer}
 use Rattle.vrt_time.specs.Time.{TimeStamp}
@@ -12,9 +12,10 @@ use Rattle.reorder_window.specs.State.{Holding}
 use Rattle.reorder_window.specs.Steps.{IsGiven}
 use Rattle.reorder_window.specs.Window.{AreFalling, accepted, held, releases}
 use Rattle.sample_binder.specs.declared.limits.Limits.{Limits}
+use Rattle.sample_binder.specs.declared.out.Out.{Out}
 use Rattle.sample_binder.specs.Binder.{Follows, AreContextsSeen, ArePacketsSeen, left_events, end_events}
 use Rattle.sample_binder.specs.Calls.{Call, context_arrivals, data_arrivals, is_told, context_event, data_event, behind, all_releases, events_of}
-use Rattle.sample_binder.specs.Drained.{MayDrain}
+use Rattle.sample_binder.specs.Drained.{MayDrain, Drains}
 use Rattle.sample_binder.specs.Events.{Event, EndEvent}
 use Rattle.sample_binder.specs.Given.{IsLater, IsDataBytes}
 use Rattle.sample_binder.specs.Queue.{State}
@@ -162,3 +163,25 @@ follows_end limits contexts packets state after calls taken none empty running e
       queue_stands = history h.done h.queue_stands;
       left = ap (λ es. (h.done ++ EndEvent ∷ []) ++ es) behind_it ∙ append-nil (h.done ++ EndEvent ∷ []) ∙ ap (λ es. h.done ++ es) (sym before) ∙ h.left;
     }
+
+-- ---- one event after another
+
+pub none_owed : (b : Bool) (xs : List Out) → (IsTrue b ↔ (xs ≢ [])) → b ≡ false → xs ≡ []
+none_owed b [] h e = refl
+none_owed b (x ∷ xs) h e = let on : b ≡ true = h.1 (λ f. absurd (cc)) in absurd (cc)
+
+pub drains-refl : (contexts : Holding ContextRec) (packets : Holding Buffer) (state : State) → Drains contexts packets state contexts packets state
+drains-refl contexts packets state = record { contexts_seen = λ kept given s. s; packets_seen = λ s. s; follows = λ limits calls taken h. h; context_size = refl; data_size = refl }
+
+module _ (c0 c1 c2 : Holding ContextRec) (p0 p1 p2 : Holding Buffer) (s0 s1 s2 : State) where
+  pub drains-trans : Drains c0 p0 s0 c1 p1 s1 → Drains c1 p1 s1 c2 p2 s2 → Drains c0 p0 s0 c2 p2 s2
+  drains-trans a b = record {
+    contexts_seen = λ kept given s. b.contexts_seen kept given (a.contexts_seen kept given s);
+    packets_seen = λ s. b.packets_seen (a.packets_seen s);
+    follows = λ limits calls taken h. b.follows limits calls taken (a.follows limits calls taken h);
+    context_size = b.context_size ∙ a.context_size;
+    data_size = b.data_size ∙ a.data_size;
+  }
+
+pub may_drain : (c0 c1 : Holding ContextRec) (p0 p1 : Holding Buffer) (s0 s1 : State) → Drains c0 p0 s0 c1 p1 s1 → MayDrain c0 s0.line → MayDrain c1 s1.line
+may_drain c0 c1 p0 p1 s0 s1 d h = record { kept = h.kept; given = h.given; some = h.some; few = h.few; seen = d.contexts_seen h.kept h.given h.seen }

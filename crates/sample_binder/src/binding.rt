@@ -129,4 +129,11 @@ impl Binding {
         self.leaving.is_some()
             || decide_first(&self.timeline, &self.queue, self.pending, self.ended).is_some()
     }
+
+    /// Whether the end has come.
+    pub(crate) fn has_ended(&self) -> bool
+        ensures { result ≡ self.now.ended }
+    {
+        self.ended
+    }
 }

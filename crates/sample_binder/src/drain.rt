@@ -6,7 +6,7 @@ ghost use Rattle.sample_binder.specs.declared.limits.Limits.{Limits};
 ghost use Rattle.sample_binder.specs.Calls.{Call};
 ghost use Rattle.sample_binder.specs.Queue.{owed};
 ghost use Rattle.sample_binder.specs.Binder.{AreContextsSeen, ArePacketsSeen, AreSeen, Follows};
-ghost use Rattle.sample_binder.specs.Drained.{MayDrain, steps_left};
+ghost use Rattle.sample_binder.specs.Drained.{MayDrain, Drains, steps_left};
 
 use crate::binding::Binding;
 use crate::release::{give_context, give_data};
@@ -64,5 +64,56 @@ fn drain_data(packets: &mut Window<PacketBuf>, binding: &mut Binding) -> bool
             true
         }
         None => false,
+    }
+}
+
+// The next event of the end: a context that is held, or else a data packet that is held, or else the end itself.
+fn drain_event(
+    contexts: &mut Window<ContextRec>,
+    packets: &mut Window<PacketBuf>,
+    binding: &mut Binding,
+)
+    requires contexts { MayDrain contexts.old binding.old.line }
+    requires packets { ArePacketsSeen packets.old true }
+    requires nothing { owed binding.old ≡ [] }
+    requires running { binding.old.ended ≡ false }
+    ensures drains { Drains contexts.old packets.old binding.old contexts.new packets.new binding.new }
+    ensures fewer { steps_left contexts.new packets.new binding.new.ended
+        < steps_left contexts.old packets.old binding.old.ended }
+{
+    if drain_context(contexts, binding) {
+        return;
+    }
+    if drain_data(packets, binding) {
+        return;
+    }
+    binding.end();
+}
+
+// Whether the next event may come: nothing is owed, and the end has not come.
+fn may_go_on(binding: &Binding) -> bool
+    ensures on { result ≡ true → owed binding.now ≡ [] }
+    ensures running { result ≡ true → binding.now.ended ≡ false }
+    ensures off { result ≡ false → owed binding.now ≡ [] → binding.now.ended ≡ true }
+{
+    if binding.owes() {
+        return false;
+    }
+    !binding.has_ended()
+}
+
+// Takes the events of the end, one after another, until something is owed or the end has come.
+pub(crate) fn advance(
+    contexts: &mut Window<ContextRec>,
+    packets: &mut Window<PacketBuf>,
+    binding: &mut Binding,
+)
+    requires contexts { MayDrain contexts.old binding.old.line }
+    requires packets { ArePacketsSeen packets.old true }
+    ensures drains { Drains contexts.old packets.old binding.old contexts.new packets.new binding.new }
+    ensures at_rest { owed binding.new ≡ [] → binding.new.ended ≡ true }
+{
+    while may_go_on(binding) {
+        drain_event(contexts, packets, binding);
     }
 }
