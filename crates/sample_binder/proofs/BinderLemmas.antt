@@ -57,19 +57,19 @@ opened limits contexts packets state c d s t e = record {
 
 -- ---- calls at the end of a list
 
-context_arrivals-append : (xs ys : List Call) → context_arrivals (xs ++ ys) ≡ context_arrivals xs ++ context_arrivals ys
+pub context_arrivals-append : (xs ys : List Call) → context_arrivals (xs ++ ys) ≡ context_arrivals xs ++ context_arrivals ys
 context_arrivals-append [] ys = refl
 context_arrivals-append (ContextCall rec ∷ xs) ys = ap (λ more. context_entry rec ∷ more) (context_arrivals-append xs ys)
 context_arrivals-append (DataCall buf ∷ xs) ys = context_arrivals-append xs ys
 context_arrivals-append (EndCall ∷ xs) ys = context_arrivals-append xs ys
 
-data_arrivals-append : (xs ys : List Call) → data_arrivals (xs ++ ys) ≡ data_arrivals xs ++ data_arrivals ys
+pub data_arrivals-append : (xs ys : List Call) → data_arrivals (xs ++ ys) ≡ data_arrivals xs ++ data_arrivals ys
 data_arrivals-append [] ys = refl
 data_arrivals-append (ContextCall rec ∷ xs) ys = data_arrivals-append xs ys
 data_arrivals-append (DataCall buf ∷ xs) ys = ap (λ more. data_entry buf ∷ more) (data_arrivals-append xs ys)
 data_arrivals-append (EndCall ∷ xs) ys = data_arrivals-append xs ys
 
-is_told-append : (xs ys : List Call) → is_told (xs ++ ys) ≡ (is_told xs || is_told ys)
+pub is_told-append : (xs ys : List Call) → is_told (xs ++ ys) ≡ (is_told xs || is_told ys)
 is_told-append [] ys = refl
 is_told-append (ContextCall rec ∷ xs) ys = is_told-append xs ys
 is_told-append (DataCall buf ∷ xs) ys = is_told-append xs ys
@@ -79,7 +79,7 @@ or_false : (b : Bool) → (b || false) ≡ b
 or_false true = refl
 or_false false = refl
 
-or_true : (b : Bool) → (b || true) ≡ true
+pub or_true : (b : Bool) → (b || true) ≡ true
 or_true true = refl
 or_true false = refl
 
@@ -91,7 +91,7 @@ events_from-more limits before (first ∷ calls) call =
     (events_from-more limits (before ++ first ∷ []) calls call ∙ ap (λ cs. events_from limits (before ++ first ∷ []) calls ++ events_by limits cs call) (append_assoc before (first ∷ []) calls))
     ∙ sym (append_assoc (events_by limits before first) (events_from limits (before ++ first ∷ []) calls) (events_by limits (before ++ first ∷ calls) call))
 
-events_of-more : (limits : Limits) (calls : List Call) (call : Call) → events_of limits (calls ++ call ∷ []) ≡ events_of limits calls ++ events_by limits calls call
+pub events_of-more : (limits : Limits) (calls : List Call) (call : Call) → events_of limits (calls ++ call ∷ []) ≡ events_of limits calls ++ events_by limits calls call
 events_of-more limits calls call = events_from-more limits [] calls call
 
 -- ---- the contexts that are released
@@ -275,6 +275,7 @@ bound_context old h off few new state released e size seen = record {
   limits = h.limits;
   context_size = size ∙ h.context_size;
   data_size = h.data_size;
+  pending = ap (λ (s : State). s.pending) e ∙ h.pending;
   few = omega arith;
   seen = record { contexts_seen = subst (λ (l : Line). AreContextsSeen old.limits.kept (old.given + 1) new l old.told) (sym (ap (λ (s : State). s.line) e)) seen; packets_seen = h.seen.packets_seen };
   running = λ f. ap (λ (s : State). s.ended) e ∙ h.running f;
@@ -293,6 +294,7 @@ bound_data old h off few new state queue e size seen =
       limits = h.limits;
       context_size = h.context_size;
       data_size = size ∙ h.data_size;
+      pending = ap (λ (s : State). s.pending) e ∙ h.pending;
       few = omega arith;
       seen = record { contexts_seen = subst (λ (l : Line). AreContextsSeen old.limits.kept (old.given + 1) old.contexts l old.told) (sym (ap (λ (s : State). s.line) e)) contexts; packets_seen = seen };
       running = λ f. ap (λ (s : State). s.ended) e ∙ h.running f;

@@ -171,7 +171,7 @@ none_owed b [] h e = refl
 none_owed b (x ∷ xs) h e = let on : b ≡ true = h.1 (λ f. absurd (cc)) in absurd (cc)
 
 pub drains-refl : (contexts : Holding ContextRec) (packets : Holding Buffer) (state : State) → Drains contexts packets state contexts packets state
-drains-refl contexts packets state = record { contexts_seen = λ kept given s. s; packets_seen = λ s. s; follows = λ limits calls taken h. h; context_size = refl; data_size = refl }
+drains-refl contexts packets state = record { contexts_seen = λ kept given s. s; packets_seen = λ s. s; follows = λ limits calls taken h. h; context_size = refl; data_size = refl; pending = refl }
 
 module _ (c0 c1 c2 : Holding ContextRec) (p0 p1 p2 : Holding Buffer) (s0 s1 s2 : State) where
   pub drains-trans : Drains c0 p0 s0 c1 p1 s1 → Drains c1 p1 s1 c2 p2 s2 → Drains c0 p0 s0 c2 p2 s2
@@ -181,6 +181,7 @@ module _ (c0 c1 c2 : Holding ContextRec) (p0 p1 p2 : Holding Buffer) (s0 s1 s2 :
     follows = λ limits calls taken h. b.follows limits calls taken (a.follows limits calls taken h);
     context_size = b.context_size ∙ a.context_size;
     data_size = b.data_size ∙ a.data_size;
+    pending = b.pending ∙ a.pending;
   }
 
 pub may_drain : (c0 c1 : Holding ContextRec) (p0 p1 : Holding Buffer) (s0 s1 : State) → Drains c0 p0 s0 c1 p1 s1 → MayDrain c0 s0.line → MayDrain c1 s1.line

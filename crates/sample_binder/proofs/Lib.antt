@@ -7,3 +7,4 @@ pub mod GiveLemmas
 pub mod ArrivalLemmas
 pub mod BinderLemmas
 pub mod DrainLemmas
+pub mod NextLemmas

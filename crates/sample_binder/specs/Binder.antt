@@ -93,6 +93,7 @@ pub record IsBound (bound : Bound) : Type 0 where
   pub limits : AreLimits bound.limits
   pub context_size : bound.contexts.size ≡ bound.limits.context_window
   pub data_size : bound.packets.size ≡ bound.limits.data_window
+  pub pending : bound.state.pending ≡ bound.limits.pending
   pub few : bound.given ≤ 2 ^ 63
   pub seen : AreSeen bound.limits.kept bound.given bound.contexts bound.packets bound.state.line bound.told
   pub running : bound.told ≡ false → bound.state.ended ≡ false

@@ -28,3 +28,4 @@ pub record Drains (contexts : Holding ContextRec) (packets : Holding Buffer) (st
   pub follows : (limits : Limits) (calls : List Call) (taken : ℕ) → Follows limits contexts packets state true calls taken → Follows limits contexts_after packets_after after true calls taken
   pub context_size : contexts_after.size ≡ contexts.size
   pub data_size : packets_after.size ≡ packets.size
+  pub pending : after.pending ≡ state.pending

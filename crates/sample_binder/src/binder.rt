@@ -8,7 +8,9 @@ ghost use Rattle.sample_binder.specs.Binder.{AreLimits, StandsFor, SameBinder, w
 
 use crate::arrive::{arrive_context, arrive_data};
 use crate::binding::Binding;
+use crate::drain::{advance, go_on};
 use crate::limits::Limits;
+use crate::out::Out;
 use crate::release::{give_context, give_data};
 use crate::turned::Turned;
 use difi_context::ContextRec;
@@ -125,5 +127,59 @@ impl Binder {
             }
             Err(turned) => Err(turned),
         }
+    }
+
+    /// The stream has ended: the contexts that are held are released, then the data packets that are
+    /// held, and then none waits any longer.
+    pub fn end(&mut self)
+        requires nothing { owed self.old.state ≡ [] }
+        requires untold { self.old.told ≡ false }
+        ensures stands { (calls : List Call) (taken : ℕ) → StandsFor self.old calls taken
+            → StandsFor self.new (calls ++ EndCall ∷ []) taken }
+        ensures profile { self.new.profile ≡ self.old.profile }
+        ensures limits { self.new.limits ≡ self.old.limits }
+        ensures given { self.new.given ≡ self.old.given }
+        ensures told { self.new.told ≡ true }
+    {
+        self.told = true;
+        advance(&mut self.contexts, &mut self.packets, &mut self.binding);
+    }
+
+    /// The next that is due: a data packet with the number lost before it, and then its runs. `None`
+    /// exactly where nothing is due.
+    pub fn next_out(&mut self) -> Option<Out>
+        ensures given { (calls : List Call) (taken : ℕ) → StandsFor self.old calls taken
+            → result ≡ slice_get (outputs_of self.old.limits calls) taken }
+        ensures stands { (calls : List Call) (taken : ℕ) → StandsFor self.old calls taken
+            → OnSome result (StandsFor self.new calls (taken + 1)) }
+        ensures kept { SameBinder self.old self.new }
+        ensures count { self.new.given ≡ self.old.given }
+        ensures nothing { IfNone result (owed self.old.state ≡ []) }
+        ensures none { IfNone result (self.new ≡ self.old) }
+    {
+        let given = match self.binding.next_out() {
+            Some(given) => given,
+            None => return None,
+        };
+        go_on(
+            self.told,
+            &mut self.contexts,
+            &mut self.packets,
+            &mut self.binding,
+        );
+        Some(given)
+    }
+
+    /// Whether `next_out` would give something.
+    pub fn owes(&self) -> bool
+        ensures owes { IsTrue result ↔ (owed self.now.state ≢ []) }
+        ensures due { (calls : List Call) (taken : ℕ) → StandsFor self.now calls taken
+            → IsTrue result ↔ (taken < length (outputs_of self.now.limits calls)) }
+
+        // No more data packets are held and wait than that.
+        ensures few { length self.now.packets.held + length self.now.state.queue
+            ≤ self.now.limits.data_window + 1 + self.now.limits.pending }
+    {
+        self.binding.owes()
     }
 }

@@ -1,4 +1,4 @@
-ghost use Rattle.std.specs.Prelude.{◌≡◌, ◌≢◌, ℕ, ◌+◌, ◌<◌, ◌≤◌, ◌^◌, ◌↔◌, suc, true, false, List, [], ◌∷◌, ◌++◌, None, slice_get, IsTrue, IfOk, IfSome, IfNone, OnSome};
+ghost use Rattle.std.specs.Prelude.{◌≡◌, ◌≢◌, ℕ, ◌+◌, ◌<◌, ◌≤◌, ◌^◌, ◌↔◌, suc, true, false, List, [], ◌∷◌, ◌++◌, None, length, slice_get, IsTrue, IfOk, IfSome, IfNone, OnSome};
 ghost use Rattle.vrt_time.specs.Time.{moment_of};
 ghost use Rattle.difi_context.specs.Context.{IsInGrammar};
 ghost use Rattle.context_timeline.specs.Line.{line_of, with_context, timed_context, stamp_in, horizon_of};
@@ -124,7 +124,8 @@ impl Binding {
 
     /// Whether something is owed.
     pub(crate) fn owes(&self) -> bool
-        ensures { IsTrue result ↔ (owed self.now ≢ []) }
+        ensures owes { IsTrue result ↔ (owed self.now ≢ []) }
+        ensures room { length self.now.queue ≤ self.now.pending + 1 }
     {
         self.leaving.is_some()
             || decide_first(&self.timeline, &self.queue, self.pending, self.ended).is_some()

@@ -25,6 +25,7 @@ fn drain_context(contexts: &mut Window<ContextRec>, binding: &mut Binding) -> bo
         → Follows limits contexts.old packets binding.old true calls taken
         → Follows limits contexts.new packets binding.new true calls taken }
     ensures size { contexts.new.size ≡ contexts.old.size }
+    ensures pending { binding.new.pending ≡ binding.old.pending }
     ensures running { binding.new.ended ≡ false }
     ensures fewer { result ≡ true → length contexts.new.held + 1 ≡ length contexts.old.held }
     ensures none { result ≡ false → contexts.new.held ≡ [] }
@@ -51,6 +52,7 @@ fn drain_data(packets: &mut Window<PacketBuf>, binding: &mut Binding) -> bool
         → Follows limits contexts packets.old binding.old true calls taken
         → Follows limits contexts packets.new binding.new true calls taken }
     ensures size { packets.new.size ≡ packets.old.size }
+    ensures pending { binding.new.pending ≡ binding.old.pending }
     ensures line { binding.new.line ≡ binding.old.line }
     ensures running { binding.new.ended ≡ false }
     ensures fewer { result ≡ true → length packets.new.held + 1 ≡ length packets.old.held }
@@ -115,5 +117,30 @@ pub(crate) fn advance(
 {
     while may_go_on(binding) {
         drain_event(contexts, packets, binding);
+    }
+}
+
+// The same where the end was told.
+pub(crate) fn go_on(
+    told: bool,
+    contexts: &mut Window<ContextRec>,
+    packets: &mut Window<PacketBuf>,
+    binding: &mut Binding,
+)
+    requires contexts { told ≡ true → MayDrain contexts.old binding.old.line }
+    requires packets { told ≡ true → ArePacketsSeen packets.old true }
+    ensures seen { (kept given : ℕ) → AreSeen kept given contexts.old packets.old binding.old.line told
+        → AreSeen kept given contexts.new packets.new binding.new.line told }
+    ensures follows { (limits : Limits) (calls : List Call) (taken : ℕ)
+        → Follows limits contexts.old packets.old binding.old told calls taken
+        → Follows limits contexts.new packets.new binding.new told calls taken }
+    ensures context_size { contexts.new.size ≡ contexts.old.size }
+    ensures data_size { packets.new.size ≡ packets.old.size }
+    ensures pending { binding.new.pending ≡ binding.old.pending }
+    ensures running { told ≡ false → binding.new.ended ≡ binding.old.ended }
+    ensures at_rest { told ≡ true → owed binding.new ≡ [] → binding.new.ended ≡ true }
+{
+    if told {
+        advance(contexts, packets, binding);
     }
 }

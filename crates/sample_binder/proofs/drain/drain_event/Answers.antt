@@ -20,4 +20,5 @@ returns-clause-drains c =
           (c.drain_data.ensures.follows limits c.drain_context.new.contexts calls taken none (c.drain_context.ensures.follows limits c.args.packets.now calls taken h));
       context_size = c.drain_context.ensures.size;
       data_size = c.drain_data.ensures.size;
+      pending = ap (λ (s : State). s.pending) c.end.ensures.state ∙ c.drain_data.ensures.pending ∙ c.drain_context.ensures.pending;
     }
