@@ -1,19 +1,17 @@
 -- What arrivals at a window, and draining it, make of its releases.
-use Rattle.std.proofs.Common.{◌≡◌, ◌≢◌, ◌⊎◌, ℕ, suc, zero, ◌+◌, ◌-◌, ◌<◌, ◌≤◌, min, ◌&&◌, ◌==◌, not, nat_le, nat_lt, Bool, true, false, cond, List, [], ◌∷◌, ◌++◌, length, take, drop, fold, Option, Some, None, Result, Ok, Err, is_none, IfSome, IfNone, refl, sym, ap, ◌∙◌, subst, inl, inr, arith, length-append, length-drop, append_assoc}
+use Rattle.std.proofs.Common.{◌≡◌, ◌≢◌, ℕ, suc, zero, ◌+◌, ◌-◌, ◌≤◌, min, ◌&&◌, ◌==◌, not, nat_lt, Bool, true, false, cond, List, [], ◌∷◌, ◌++◌, length, take, drop, Option, Some, None, Result, Err, is_none, refl, sym, ap, ◌∙◌, subst, arith, length-append, length-drop, append_assoc}
 use Rattle.std.proofs.lemmas.List.{append-nil, length-take-le, nil_from_length}
 use Rattle.std.proofs.lemmas.List.Sums.{fold-append}
 use Rattle.std.proofs.Math.Seq.{drop-append_seam}
 use Rattle.std.specs.List.{AllByRecursion}
 use Rattle.vrt_time.specs.Time.{TimeStamp, moment_of}
 use Rattle.reorder_window.specs.declared.entry.Entry.{Entry}
-use Rattle.reorder_window.specs.declared.entry.Last.{Last}
 use Rattle.reorder_window.specs.declared.arrival.Arrival.{Arrival}
 use Rattle.reorder_window.specs.declared.arrival.Arrival.TheVariants as arrival
 use Rattle.reorder_window.specs.State.{Holding, StandsFor, last_of}
-use Rattle.reorder_window.specs.Window.{AreFalling, boundary, is_late, twin, is_accepted, in_place, with_arrival, accepted, number_held, held, released, answer_twin, answer_accepted, answer_above, answer_by, answer, release, in_order, releases}
+use Rattle.reorder_window.specs.Window.{AreFalling, boundary, is_late, twin, is_accepted, in_place, with_arrival, accepted, number_held, held, released, answer_accepted, answer_above, answer_by, answer, release, in_order, releases}
 use Rattle.sample_binder.specs.declared.turned.Turned.{Turned}
 use Rattle.sample_binder.specs.declared.turned.Turned.TheVariants as turned
-use Rattle.sample_binder.specs.Cases.{tested}
 use Rattle.sample_binder.specs.Calls.{behind, all_releases, outcome}
 
 off : (late : Bool) (none : Bool) → none ≡ false → (not late && none) ≡ false

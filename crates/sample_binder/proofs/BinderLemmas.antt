@@ -1,5 +1,5 @@
 -- What the calls of a binder make of it.
-use Rattle.std.proofs.Common.{◌≡◌, ◌≢◌, ◌⊎◌, ℕ, suc, zero, ◌+◌, ◌-◌, ◌<◌, ◌≤◌, ◌^◌, ◌||◌, Bool, true, false, cond, List, [], ◌∷◌, ◌++◌, length, take, drop, map, get_or, slice_get, Option, Some, None, Result, Ok, Err, IfSome, IfNone, OnSome, OnErr, option_map, refl, sym, ap, ◌∙◌, subst, inl, inr, arith, length-append, length-drop, append_assoc}
+use Rattle.std.proofs.Common.{◌≡◌, ℕ, ◌+◌, ◌-◌, ◌<◌, ◌≤◌, ◌^◌, ◌||◌, Bool, true, false, cond, List, [], ◌∷◌, ◌++◌, length, take, drop, map, get_or, slice_get, Option, Some, None, Result, Ok, Err, IfSome, OnErr, option_map, refl, sym, ap, ◌∙◌, subst, arith, length-append, append_assoc}
 use Rattle.std.proofs.lemmas.List.{append-nil, map-append, length-map, length-take, get_or-take}
 use Rattle.std.specs.List.{AllByRecursion}
 use Rattle.vrt_words.specs.Buffer.{Buffer}
@@ -14,7 +14,7 @@ use Rattle.vrt_header.specs.declared.header.Kind.TheVariants.{Data}
 use Rattle.difi_data.specs.DataLaws.{seven_words, data_timed}
 use Rattle.difi_context.specs.declared.context.ContextRec.{ContextRec}
 use Rattle.context_timeline.specs.declared.timed_context.TimedContext.{TimedContext}
-use Rattle.context_timeline.specs.Line.{Line, line_of, with_context, horizon_of, stamp_in}
+use Rattle.context_timeline.specs.Line.{Line, line_of, horizon_of, stamp_in}
 use Rattle.context_timeline.specs.LineLaws.{line_of-push, horizon_of-line_of}
 use Rattle.reorder_window.specs.declared.entry.Entry.{Entry}
 use Rattle.reorder_window.specs.State as window
@@ -22,20 +22,17 @@ use Rattle.reorder_window.specs.State.{Holding}
 use Rattle.reorder_window.specs.Window.{AreFalling, AreBelow, accepted, number_held, release, in_order, releases, answer}
 use Rattle.reorder_window.specs.WindowLaws.{every-accepted, every-release}
 use Rattle.sample_binder.specs.declared.limits.Limits.{Limits}
-use Rattle.sample_binder.specs.declared.out.Out.{Out}
 use Rattle.sample_binder.specs.declared.pending.Pending.{Pending}
 use Rattle.sample_binder.specs.declared.turned.Turned.{Turned}
 use Rattle.sample_binder.specs.Arrivals.{released_list, releases_by, Takes}
-use Rattle.sample_binder.specs.Binder.{Bound, IsBound, Follows, AreContextsSeen, ArePacketsSeen, AreSeen, left_events, end_events}
-use Rattle.sample_binder.specs.Calls.{Call, ContextCall, DataCall, EndCall, context_arrivals, data_arrivals, context_entry, data_entry, is_told, context_event, data_event, behind, all_releases, events_by, events_from, events_of, outputs_of, outcome}
-use Rattle.sample_binder.specs.Events.{Event, ContextEvent, DataEvent, EndEvent, has_ended}
+use Rattle.sample_binder.specs.Binder.{Bound, IsBound, Follows, AreContextsSeen, ArePacketsSeen, left_events, end_events}
+use Rattle.sample_binder.specs.Calls.{Call, ContextCall, DataCall, EndCall, context_arrivals, data_arrivals, context_entry, data_entry, is_told, context_event, data_event, behind, events_by, events_from, events_of, outcome}
+use Rattle.sample_binder.specs.Events.{Event}
 use Rattle.sample_binder.specs.Given.{IsContextEntry, IsDataEntry, IsDataBytes, IsDataOf, IsLater}
-use Rattle.sample_binder.specs.Outputs.{outputs}
-use Rattle.sample_binder.specs.PrefixLaws.{outputs-prefix}
 use Rattle.sample_binder.specs.Queue.{State, owed}
 use Rattle.sample_binder.specs.Queue as queue
-use Rattle.sample_binder.specs.Released.{released_context, with_released, released_packet, queue_with}
-use Rattle.sample_binder.proofs.ArrivalLemmas.{accepted-one, accepted-nil, behind-append, all_split, drained_first, none_left, newest, falling-drop, each-drop, releases-within, handed_back}
+use Rattle.sample_binder.specs.Released.{released_context, with_released}
+use Rattle.sample_binder.proofs.ArrivalLemmas.{accepted-one, behind-append, newest, falling-drop, each-drop, releases-within, handed_back}
 
 -- ---- opening
 

@@ -1,12 +1,11 @@
 -- Up to where the mark of a sample stays.
-use Rattle.std.proofs.Common.{◌≡◌, ℕ, ◌+◌, ◌*◌, ◌/◌, ◌^◌, ◌<◌, ◌≤◌, nat_lt, Bool, true, false, cond, refl, List, [], ◌∷◌, Option, Some, None, IfSome, subst, sym, ap, ◌∙◌, inl, inr, arith}
+use Rattle.std.proofs.Common.{◌≡◌, ℕ, ◌<◌, ◌≤◌, nat_lt, Bool, true, false, cond, refl, List, [], ◌∷◌, Option, Some, None, IfSome, subst, sym, ap, ◌∙◌, inl, inr, arith}
 use Rattle.std.proofs.lemmas.Bool.Decides.{nat_tests}
 use Rattle.std.proofs.lemmas.Bool.{cases_lt}
 use Rattle.vrt_time.specs.Time.{TimeStamp, moment_of, capture_at}
 use Rattle.context_timeline.specs.declared.timed_context.TimedContext.{TimedContext}
 use Rattle.context_timeline.specs.Marks.{next_stamp}
 use Rattle.sample_binder.specs.declared.sampled.Sampled.{Sampled}
-use Rattle.sample_binder.specs.Cases.{tested}
 use Rattle.sample_binder.specs.Samples.{rate_in}
 use Rattle.sample_binder.specs.Stretches.{IsPassedBy}
 

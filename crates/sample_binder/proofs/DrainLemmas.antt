@@ -1,12 +1,11 @@
 -- What draining the windows makes of a binder.
-use Rattle.std.proofs.Common.{◌≡◌, ◌≢◌, ◌↔◌, IsTrue, ℕ, suc, zero, ◌+◌, ◌-◌, ◌<◌, ◌≤◌, ◌^◌, Bool, true, false, cond, List, [], ◌∷◌, ◌++◌, length, map, Option, Some, None, IfSome, OnSome, refl, sym, ap, ◌∙◌, subst, arith, length-append, append_assoc}
+use Rattle.std.proofs.Common.{◌≡◌, ◌≢◌, ◌↔◌, IsTrue, ℕ, ◌+◌, Bool, true, false, cond, List, [], ◌∷◌, ◌++◌, length, map, Some, refl, sym, ap, ◌∙◌, subst, arith, length-append, append_assoc}
 use Rattle.std.proofs.lemmas.List.{append-nil}
 use Rattle.vrt_words.specs.Buffer.{Buffer}
 use Rattle.vrt_time.specs.Time.{TimeStamp}
 use Rattle.difi_context.specs.declared.context.ContextRec.{ContextRec}
 use Rattle.context_timeline.specs.Line.{Line, line_of, with_context}
 use Rattle.reorder_window.specs.declared.entry.Entry.{Entry}
-use Rattle.reorder_window.specs.declared.entry.Last.{Last}
 use Rattle.reorder_window.specs.State as window
 use Rattle.reorder_window.specs.State.{Holding}
 use Rattle.reorder_window.specs.Steps.{IsGiven}
@@ -14,13 +13,13 @@ use Rattle.reorder_window.specs.Window.{AreFalling, accepted, held, releases}
 use Rattle.sample_binder.specs.declared.limits.Limits.{Limits}
 use Rattle.sample_binder.specs.declared.out.Out.{Out}
 use Rattle.sample_binder.specs.Binder.{Follows, AreContextsSeen, ArePacketsSeen, left_events, end_events}
-use Rattle.sample_binder.specs.Calls.{Call, context_arrivals, data_arrivals, is_told, context_event, data_event, behind, all_releases, events_of}
+use Rattle.sample_binder.specs.Calls.{Call, context_arrivals, data_arrivals, is_told, context_event, data_event, behind, all_releases}
 use Rattle.sample_binder.specs.Drained.{MayDrain, Drains}
 use Rattle.sample_binder.specs.Events.{Event, EndEvent}
 use Rattle.sample_binder.specs.Given.{IsLater, IsDataBytes}
 use Rattle.sample_binder.specs.Queue.{State}
 use Rattle.sample_binder.specs.Queue as queue
-use Rattle.sample_binder.specs.Released.{released_context, with_released}
+use Rattle.sample_binder.specs.Released.{released_context}
 use Rattle.sample_binder.proofs.ArrivalLemmas.{drained_first, none_left}
 use Rattle.sample_binder.proofs.BinderLemmas.{later_of, line_with, data_of}
 

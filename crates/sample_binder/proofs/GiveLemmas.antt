@@ -1,13 +1,11 @@
 -- What one more output makes of a queue.
-use Rattle.std.proofs.Common.{◌≡◌, ◌≢◌, ◌⊎◌, ℕ, suc, zero, ◌+◌, ◌-◌, ◌*◌, ◌/◌, ◌%◌, ◌<◌, ◌≤◌, ◌||◌, ◌&&◌, ◌==◌, nat_lt, Bool, true, false, cond, List, [], ◌∷◌, ◌++◌, length, drop, map, slice_get, Option, Some, None, IfSome, IfNone, OnSome, IsTrue, ◌↔◌, is_some, refl, sym, ap, ◌∙◌, subst, inl, inr, arith, length-drop, append_assoc}
-use Rattle.std.proofs.lemmas.Bool.Decides.{nat_tests}
-use Rattle.std.proofs.lemmas.Option.{slice_get_cases}
+use Rattle.std.proofs.Common.{◌≡◌, ◌≢◌, ℕ, suc, zero, ◌+◌, ◌-◌, ◌<◌, ◌≤◌, ◌||◌, ◌==◌, nat_lt, Bool, true, false, cond, List, [], ◌∷◌, ◌++◌, length, drop, map, slice_get, Option, Some, None, IfSome, IfNone, OnSome, IsTrue, ◌↔◌, is_some, refl, sym, ap, ◌∙◌, subst, inl, inr, arith, length-drop}
 use Rattle.vrt_time.specs.Time.{moment_of}
 use Rattle.context_timeline.specs.declared.timed_context.TimedContext.{TimedContext}
 use Rattle.context_timeline.specs.declared.mark.Mark.{Mark}
 use Rattle.context_timeline.specs.declared.mark.Mark.TheVariants as mark
 use Rattle.context_timeline.specs.Line.{Line, horizon_of}
-use Rattle.context_timeline.specs.Marks.{mark_in, mark_below, mark_before, mark_between, mark_of_pair, last_not_after, is_below, healed}
+use Rattle.context_timeline.specs.Marks.{mark_in, mark_below, mark_between, last_not_after, is_below, healed}
 use Rattle.sample_binder.specs.declared.leaving.Leaving.{Leaving}
 use Rattle.sample_binder.specs.declared.limits.Limits.{Limits}
 use Rattle.sample_binder.specs.declared.out.Out.{Out}
@@ -20,12 +18,12 @@ use Rattle.sample_binder.specs.Cases.{tested}
 use Rattle.sample_binder.specs.Due.{may_leave, has_case, has_case_after, is_known, is_known_by}
 use Rattle.sample_binder.specs.DueLaws.{may_leave-none, may_leave-next}
 use Rattle.sample_binder.specs.Events.{Event, packets_of, has_ended, line_after}
-use Rattle.sample_binder.specs.Left.{runs_left, runs_left_of, IsLeaving, leaving_bound, leaving_by, decided}
+use Rattle.sample_binder.specs.Left.{runs_left, runs_left_of, IsLeaving, leaving_bound, leaving_by}
 use Rattle.sample_binder.specs.Outputs.{open_reason, packet_and_runs, outputs}
 use Rattle.sample_binder.specs.OutputLaws.{first_of, more_wait}
-use Rattle.sample_binder.specs.Queue.{State, owed, is_first_due, queue_owes, first_decided, StandsFor, IsState, AreSound, IsShape}
+use Rattle.sample_binder.specs.Queue.{State, owed, is_first_due, queue_owes, first_decided, StandsFor, IsState, AreSound}
 use Rattle.sample_binder.specs.Runs.{runs_bound, runs_by, runs_of, cut_from, run_at, label_at}
-use Rattle.sample_binder.specs.Samples.{size_in, number_of, used_bits}
+use Rattle.sample_binder.specs.Samples.{size_in, number_of}
 use Rattle.sample_binder.specs.Sound.{HasSampling}
 use Rattle.sample_binder.specs.Steps.{GivesPacket}
 use Rattle.sample_binder.proofs.SampleLemmas.{number_positive}

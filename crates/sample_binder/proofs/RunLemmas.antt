@@ -1,17 +1,14 @@
 -- A stretch that is told is the first of those that are left.
-use Rattle.std.proofs.Common.{◌≡◌, ◌⊎◌, ℕ, suc, zero, ◌+◌, ◌-◌, ◌<◌, ◌≤◌, ◌==◌, ◌&&◌, not, nat_lt, Bool, true, false, cond, List, [], ◌∷◌, map, Option, Some, None, IfSome, refl, sym, ap, ◌∙◌, subst, inl, inr, arith}
+use Rattle.std.proofs.Common.{◌≡◌, ℕ, suc, zero, ◌+◌, ◌-◌, ◌<◌, ◌≤◌, ◌==◌, ◌&&◌, not, nat_lt, Bool, true, false, cond, ◌∷◌, map, Some, None, IfSome, refl, sym, ap, ◌∙◌, inl, inr, arith}
 use Rattle.std.proofs.lemmas.Bool.Decides.{nat_tests}
 use Rattle.std.proofs.lemmas.Bool.{cases_lt}
 use Rattle.context_timeline.specs.Line.{Line}
 use Rattle.sample_binder.specs.declared.label.Label.{Label}
-use Rattle.sample_binder.specs.declared.leaving.Leaving.{Leaving}
 use Rattle.sample_binder.specs.declared.leaving.Leaving.TheVariants as leaving
 use Rattle.sample_binder.specs.declared.reason.Reason.{Reason}
-use Rattle.sample_binder.specs.declared.run.Run.{Run}
 use Rattle.sample_binder.specs.declared.sampled.Sampled.{Sampled}
-use Rattle.sample_binder.specs.Due.{first_below}
 use Rattle.sample_binder.specs.Runs.{same_label, label_number, label_detail, label_at, starts, or_all, next_start, cut_from, run_at}
-use Rattle.sample_binder.specs.Left.{runs_left, runs_left_of, rest_from, IsLeaving, IsCut}
+use Rattle.sample_binder.specs.Left.{runs_left, runs_left_of, rest_from, IsLeaving}
 use Rattle.sample_binder.specs.Sound.{HasSampling}
 use Rattle.sample_binder.specs.Stretches.{IsStretch}
 use Rattle.sample_binder.specs.FirstLaws.{first_below-is, first_below-none}

@@ -1,10 +1,8 @@
 -- What one more event, and one more output, make of a queue.
-use Rattle.std.proofs.Common.{◌≡◌, ◌≢◌, ◌⊎◌, ℕ, suc, zero, ◌+◌, ◌-◌, ◌*◌, ◌^◌, ◌<◌, ◌≤◌, ◌||◌, nat_lt, Bool, true, false, cond, List, [], ◌∷◌, ◌++◌, length, take, drop, map, get_or, slice_get, Option, Some, None, IfSome, refl, sym, ap, ◌∙◌, subst, inl, inr, arith, length-append, length-drop, append_assoc}
-use Rattle.std.proofs.lemmas.Bool.{cases_lt}
+use Rattle.std.proofs.Common.{◌≡◌, ◌≢◌, ℕ, suc, zero, ◌+◌, ◌-◌, ◌<◌, ◌≤◌, ◌||◌, nat_lt, Bool, true, false, cond, List, [], ◌∷◌, ◌++◌, length, drop, map, get_or, slice_get, Option, Some, None, IfSome, refl, sym, ap, ◌∙◌, subst, arith, length-append, length-drop}
 use Rattle.std.proofs.lemmas.Bool.Decides.{nat_tests}
-use Rattle.std.proofs.lemmas.List.{append-nil, take_all, drop-append-le, get_or-drop, nil_from_length}
+use Rattle.std.proofs.lemmas.List.{append-nil, take_all, drop-append-le, get_or-drop}
 use Rattle.std.proofs.Math.Seq.{drop-append_seam}
-use Rattle.std.proofs.lemmas.Option.{slice_get_past, slice_get_within, slice_get_cases}
 use Rattle.vrt_words.specs.Words.{bits}
 use Rattle.difi_context.specs.declared.context.ContextRec.{ContextRec}
 use Rattle.difi_context.specs.Context.{IsInGrammar}
@@ -15,22 +13,18 @@ use Rattle.sample_binder.specs.declared.label.Label.{Label}
 use Rattle.sample_binder.specs.declared.leaving.Leaving.{Leaving}
 use Rattle.sample_binder.specs.declared.leaving.Leaving.TheVariants as leaving
 use Rattle.sample_binder.specs.declared.limits.Limits.{Limits}
-use Rattle.sample_binder.specs.declared.out.Out.{Out}
 use Rattle.sample_binder.specs.declared.out.Out.TheVariants as out
 use Rattle.sample_binder.specs.declared.pending.Pending.{Pending}
 use Rattle.sample_binder.specs.declared.reason.Reason.{Reason}
-use Rattle.sample_binder.specs.declared.run.Run.{Run}
-use Rattle.sample_binder.specs.declared.sampled.Sampled.{Sampled}
-use Rattle.sample_binder.specs.Cases.{tested}
 use Rattle.sample_binder.specs.Due.{may_leave, has_case, has_case_after, is_known}
-use Rattle.sample_binder.specs.DueLaws.{may_leave-more, may_leave-none, may_leave-next, may_leave-same}
+use Rattle.sample_binder.specs.DueLaws.{may_leave-more, may_leave-next}
 use Rattle.sample_binder.specs.Events.{Event, ContextEvent, DataEvent, EndEvent, contexts_of, packets_of, has_ended, line_after}
-use Rattle.sample_binder.specs.Left.{runs_left, runs_left_of, IsLeaving, IsCut}
-use Rattle.sample_binder.specs.Outputs.{open_reason, packet_and_runs, outputs}
+use Rattle.sample_binder.specs.Left.{runs_left, runs_left_of, IsLeaving}
+use Rattle.sample_binder.specs.Outputs.{open_reason, outputs}
 use Rattle.sample_binder.specs.OutputLaws.{first_of, more_wait, outputs-more, old_when, new_when, long}
-use Rattle.sample_binder.specs.Queue.{State, owed, is_first_due, queue_owes, StandsFor, IsState, AreSound, AreShapes, IsShape}
+use Rattle.sample_binder.specs.Queue.{State, owed, is_first_due, queue_owes, StandsFor, IsState, AreSound, IsShape}
 use Rattle.sample_binder.specs.Sound.{HasSampling}
-use Rattle.sample_binder.specs.Runs.{cut_from, starts, label_at, run_at, next_start}
+use Rattle.sample_binder.specs.Runs.{cut_from, starts, label_at, run_at, runs_of}
 
 -- ---- events at the end of a list
 
@@ -65,7 +59,7 @@ map_empty f (x ∷ xs) e = absurd (cc)
 cut_some : (labels : ℕ → Label) (number first n : ℕ) → starts labels first ≡ true → 0 < n → cut_from labels number first n ≢ []
 cut_some labels number first zero e lt f = absurd (omega arith)
 cut_some labels number first (suc n) e lt f =
-    absurd (cc (ap (λ b. cond b ((first, next_start labels number first - first) ∷ cut_from labels number (suc first) n) (cut_from labels number (suc first) n)) e))
+    absurd (cc)
 
 -- what leaves has a run
 pub leaves_some : (line : Line) (why : Reason) (l : Leaving) → IsLeaving line why l → runs_left line why l ≢ []
@@ -78,12 +72,15 @@ none_leaves : (line : Line) (why : Reason) (o : Option Leaving) → IfSome o (Is
 none_leaves line why None h e = refl
 none_leaves line why (Some l) h e = absurd (leaves_some line why l h e)
 
+none_given : {X : Type 0} (b : Bool) (x : X) (xs : List X) → cond b (x ∷ xs) [] ≡ [] → b ≡ false
+none_given true x xs e = absurd (cc)
+none_given false x xs e = refl
+
 first_waits : (pending : ℕ) (line : Line) (ended : Bool) (packet : Pending) (rest : List Pending) → queue_owes pending line ended (packet ∷ rest) ≡ []
     → is_first_due pending line ended packet.shape (length (packet ∷ rest)) ≡ false
-first_waits pending line ended packet rest e = elim (tested (is_first_due pending line ended packet.shape (length (packet ∷ rest)))) [
-  | inl on ↦ absurd (cc (ap (λ b. cond b (packet_and_runs line (open_reason ended) packet ++ queue_owes pending line ended rest) []) on))
-  | inr off ↦ off
-]
+first_waits pending line ended packet rest e =
+    none_given (is_first_due pending line ended packet.shape (length (packet ∷ rest))) (out.Packet packet.buf packet.lost)
+    (map out.Run (runs_of line (open_reason ended) packet.shape) ++ queue_owes pending line ended rest) e
 
 few_wait : (known full : Bool) (ended : Bool) → (known || full || ended) ≡ false → full ≡ false
 few_wait known full ended e = grind arith

@@ -74,7 +74,7 @@ module _ (passes : ℕ → ℕ → Bool) (n : ℕ) where
         let h = found_next j old.0 e old.1 (λ k a b. may_leave-new j k a b) in
         let g : first_below (from old.0 (passes j)) (suc n) ≡ Some d = sym (ap (first_from (passes j) (suc n)) old.1) ∙ f in
         sym (chosen (passes j n) n d (sym (next_from (passes j) n old.0 h.0 h.1) ∙ g))
-    | inr none ↦ absurd (cc (ap (first_from (passes j) (suc n)) none))
+    | inr none ↦ absurd (cc)
   ]
 
   -- a packet that was not due before event n, and may be due at it, is so where it passes there

@@ -1,14 +1,13 @@
 -- Laws of outputs: one more event adds what the packets that wait then give.
-use Rattle.std.proofs.Common.{◌≡◌, ◌⊎◌, ℕ, suc, zero, ◌+◌, ◌-◌, ◌<◌, ◌≤◌, ◌||◌, nat_lt, Bool, true, false, cond, List, [], ◌∷◌, ◌++◌, length, take, drop, slice_get, Option, Some, None, refl, sym, ap, ◌∙◌, subst, inl, inr, arith, length-append, append_assoc}
+use Rattle.std.proofs.Common.{◌≡◌, ◌⊎◌, ℕ, suc, zero, ◌+◌, ◌-◌, ◌<◌, ◌≤◌, ◌||◌, nat_lt, Bool, true, false, cond, List, [], ◌∷◌, ◌++◌, length, take, drop, slice_get, Option, Some, None, refl, sym, ap, ◌∙◌, inl, inr, arith, length-append, append_assoc}
 use Rattle.std.proofs.lemmas.Bool.Decides.{nat_tests}
 use Rattle.std.proofs.lemmas.List.{append-nil, take-append-le, take_all, length-drop}
 use Rattle.context_timeline.specs.Line.{Line}
 use Rattle.sample_binder.specs.declared.limits.Limits.{Limits}
-use Rattle.sample_binder.specs.declared.out.Out.{Out}
 use Rattle.sample_binder.specs.declared.pending.Pending.{Pending}
 use Rattle.sample_binder.specs.Cases.{tested}
 use Rattle.sample_binder.specs.Due.{may_leave, has_case, has_case_after, is_known, due}
-use Rattle.sample_binder.specs.DueLaws.{may_leave-within, may_leave-below, may_leave-more, may_leave-none, may_leave-next, may_leave-same, may_leave-none_behind}
+use Rattle.sample_binder.specs.DueLaws.{may_leave-below, may_leave-more, may_leave-none, may_leave-next, may_leave-same, may_leave-none_behind}
 use Rattle.sample_binder.specs.Events.{Event, packets_of, has_ended, line_after}
 use Rattle.sample_binder.specs.Outputs.{open_reason, packet_and_runs, leaves_after, leaves_at, leaves, outputs_of_first, outputs}
 use Rattle.sample_binder.specs.Queue.{is_first_due, queue_owes}

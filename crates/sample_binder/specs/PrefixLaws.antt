@@ -1,11 +1,10 @@
 -- What events give is the front of what they give with more events behind them.
-use Rattle.std.proofs.Common.{◌≡◌, ◌⊎◌, ℕ, suc, zero, ◌+◌, ◌-◌, ◌<◌, ◌≤◌, nat_le, ◌&&◌, Bool, true, false, cond, List, [], ◌∷◌, ◌++◌, length, take, drop, slice_get, Option, Some, None, refl, sym, ap, ◌∙◌, subst, inl, inr, arith, length-append, append_assoc}
+use Rattle.std.proofs.Common.{◌≡◌, ◌⊎◌, ℕ, suc, zero, ◌≤◌, nat_le, ◌&&◌, Bool, false, List, [], ◌∷◌, ◌++◌, length, take, drop, Option, Some, None, refl, sym, ap, ◌∙◌, inl, inr, arith, length-append, append_assoc}
 use Rattle.std.proofs.lemmas.Bool.Decides.{nat_tests}
 use Rattle.std.proofs.lemmas.List.{append-nil, take-append-drop}
 use Rattle.std.proofs.lemmas.Option.{slice_get_past}
 use Rattle.sample_binder.specs.declared.limits.Limits.{Limits}
 use Rattle.sample_binder.specs.declared.out.Out.{Out}
-use Rattle.sample_binder.specs.declared.pending.Pending.{Pending}
 use Rattle.sample_binder.specs.Due.{first_from, may_leave, has_case, has_case_after}
 use Rattle.sample_binder.specs.FirstLaws.{first_below-none}
 use Rattle.sample_binder.specs.Events.{Event, ContextEvent, DataEvent, EndEvent, packets_of, has_ended, line_after}

@@ -1,5 +1,5 @@
 -- The runs in which a due packet leaves.
-use Rattle.std.specs.Prelude.{ℕ, suc, zero, ◌+◌, ◌-◌, ◌==◌, ◌&&◌, not, nat_lt, Bool, true, if◌then◌else◌, List, [], ◌∷◌, slice_index, map, Option, Some, None}
+use Rattle.std.specs.Prelude.{ℕ, suc, zero, ◌-◌, ◌==◌, ◌&&◌, not, nat_lt, Bool, true, if◌then◌else◌, List, [], ◌∷◌, slice_index, map, Option, Some, None}
 use Rattle.vrt_time.specs.Time.{TimeStamp, moment_of, capture_at}
 use Rattle.context_timeline.specs.declared.mark.Mark.{Mark}
 use Rattle.context_timeline.specs.declared.mark.Mark.TheVariants as mark
@@ -13,7 +13,7 @@ use Rattle.sample_binder.specs.declared.run.Run.{Run}
 use Rattle.sample_binder.specs.declared.run.Run.TheVariants as run
 use Rattle.sample_binder.specs.declared.shape.Shape.{Shape}
 use Rattle.sample_binder.specs.Due.{first_below}
-use Rattle.sample_binder.specs.Samples.{rate_in, size_in, number_of, captured}
+use Rattle.sample_binder.specs.Samples.{rate_in, size_in, number_of}
 
 -- the sample rates and the payload formats of two contexts are the same
 abbrev pub same_sampling : List ℕ → List ℕ → Bool

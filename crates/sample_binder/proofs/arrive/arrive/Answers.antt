@@ -1,7 +1,5 @@
-use Rattle.std.proofs.Common.{◌≡◌, sym, subst}
-use Rattle.reorder_window.specs.declared.arrival.Arrival.{Arrival}
 use Rattle.reorder_window.specs.declared.arrival.Arrival.TheVariants as arrival
-use Rattle.sample_binder.proofs.ArrivalLemmas.{IsTurned, same_window}
+use Rattle.sample_binder.proofs.ArrivalLemmas.{same_window}
 use Rattle.sample_binder.proofs.arrive.arrive.Goals as goal
 
 pub returns-in-Late-clause-err : goal.returns-in-Late-clause-err

@@ -1,5 +1,4 @@
-use Rattle.std.proofs.Common.{◌≡◌, ◌+◌, ◌-◌, ◌*◌, ◌/◌, ◌^◌, ◌<◌, ◌≤◌, arith, ap}
-use Rattle.std.proofs.lemmas.Grind.{common_steps}
+use Rattle.std.proofs.Common.{◌+◌, ◌-◌, ◌*◌, ◌/◌, ◌^◌, ◌≤◌, arith, ap}
 use Rattle.vrt_time.specs.Time.{moment_of}
 use Rattle.sample_binder.proofs.clock.samples_before.Goals as goal
 use Rattle.sample_binder.proofs.ClockLemmas.{IsPassed, passed}

@@ -1,5 +1,5 @@
-use Rattle.std.proofs.Common.{◌≡◌, ◌<◌, ◌≤◌, ℕ, IfSome, Option, subst, sym, ap, ◌∙◌, arith}
-use Rattle.vrt_time.specs.Time.{TimeStamp, moment_of, capture_at}
+use Rattle.std.proofs.Common.{◌≡◌, ap, ◌∙◌, arith}
+use Rattle.vrt_time.specs.Time.{moment_of, capture_at}
 use Rattle.vrt_time.specs.TimeLaws.{capture_at-le}
 use Rattle.sample_binder.specs.Samples.{rate_in}
 use Rattle.sample_binder.proofs.CutLemmas.{after_sample, earlier, is_passed, passed_before}

@@ -1,4 +1,3 @@
-use Rattle.std.proofs.Common.{length}
 use Rattle.sample_binder.specs.Drained.{Drains, steps_left}
 use Rattle.sample_binder.proofs.drain.advance.Given as goal
 

@@ -1,4 +1,4 @@
-use Rattle.std.proofs.Common.{◌≡◌, ◌+◌, ◌<◌, ◌++◌, ◌∷◌, [], true, false, sym, ap, ◌∙◌, subst, arith}
+use Rattle.std.proofs.Common.{true, sym, ap, ◌∙◌, subst, arith}
 use Rattle.context_timeline.specs.Line.{Line}
 use Rattle.sample_binder.specs.Binder.{AreContextsSeen}
 use Rattle.sample_binder.specs.Queue.{State}

@@ -1,4 +1,4 @@
-use Rattle.std.proofs.Common.{◌≡◌, ◌+◌, ◌++◌, ◌∷◌, [], true, false, ap, ◌∙◌}
+use Rattle.std.proofs.Common.{ap, ◌∙◌}
 use Rattle.sample_binder.specs.Queue.{State}
 use Rattle.sample_binder.proofs.DrainLemmas.{front_drained, follows_data_drained}
 use Rattle.sample_binder.proofs.drain.drain_data.Goals as goal

@@ -1,4 +1,3 @@
-use Rattle.std.proofs.Common.{◌≡◌, [], true}
 use Rattle.sample_binder.specs.Queue.{owed}
 use Rattle.sample_binder.proofs.DrainLemmas.{none_owed}
 use Rattle.sample_binder.proofs.drain.may_go_on.Goals as goal

@@ -1,4 +1,4 @@
-use Rattle.std.proofs.Common.{◌≡◌, ℕ, Option, ◌++◌, map, sym, subst}
+use Rattle.std.proofs.Common.{ℕ, Option, ◌++◌, map, sym, subst}
 use Rattle.vrt_time.specs.Time.{TimeStamp}
 use Rattle.difi_context.specs.declared.context.ContextRec.{ContextRec}
 use Rattle.sample_binder.specs.Queue.{StandsFor}

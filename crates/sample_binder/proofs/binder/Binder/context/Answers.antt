@@ -1,14 +1,10 @@
-use Rattle.std.proofs.Common.{◌≡◌, ◌+◌, ◌<◌, ◌++◌, ◌∷◌, ◌^◌, [], ℕ, List, Option, Some, None, Ok, Err, Result, IfSome, false, refl, sym, ap, ◌∙◌, subst, arith}
+use Rattle.std.proofs.Common.{◌≡◌, ◌<◌, ◌^◌, [], List, Ok, Err, false, refl, sym, ap, ◌∙◌, subst, arith}
 use Rattle.std.proofs.lemmas.List.{append-nil}
-use Rattle.vrt_time.specs.Time.{TimeStamp}
 use Rattle.difi_context.specs.declared.context.ContextRec.{ContextRec}
 use Rattle.difi_context.specs.contracts.context.ContextRecPartialEq.TheImpl as same
 use Rattle.reorder_window.specs.State.{Holding}
-use Rattle.reorder_window.specs.Window.{answer}
-use Rattle.sample_binder.specs.declared.turned.Turned.{Turned}
-use Rattle.sample_binder.specs.Arrivals.{released_list, releases_by}
+use Rattle.sample_binder.specs.Arrivals.{released_list}
 use Rattle.sample_binder.specs.Binder.{Bound, IsBound, StandsFor, Follows, without_packet}
-use Rattle.sample_binder.specs.Calls.{Call, ContextCall, context_arrivals, context_entry, outcome}
 use Rattle.sample_binder.specs.Events.{Event}
 use Rattle.sample_binder.specs.Queue.{State, owed}
 use Rattle.sample_binder.specs.Queue as queue

@@ -1,8 +1,7 @@
-use Rattle.std.proofs.Common.{◌≡◌, ◌+◌, ◌<◌, ◌++◌, ◌∷◌, ◌^◌, [], ℕ, List, Bool, Option, Some, None, Ok, Err, Result, IfSome, false, bytes_eq, refl, sym, ap, ◌∙◌, subst, arith}
+use Rattle.std.proofs.Common.{◌≡◌, ◌<◌, ◌^◌, [], List, Ok, Err, false, bytes_eq, refl, sym, ap, ◌∙◌, subst, arith}
 use Rattle.std.proofs.lemmas.List.{append-nil}
 use Rattle.vrt_words.specs.Buffer.{Buffer}
 use Rattle.reorder_window.specs.State.{Holding}
-use Rattle.sample_binder.specs.declared.turned.Turned.{Turned}
 use Rattle.sample_binder.specs.Arrivals.{released_list}
 use Rattle.sample_binder.specs.Released.{queue_with}
 use Rattle.sample_binder.specs.Binder.{Bound, IsBound, StandsFor, Follows, without_release}

@@ -1,4 +1,4 @@
-use Rattle.std.proofs.Common.{◌≡◌, ◌++◌, ◌∷◌, [], true, false, sym, ap, ◌∙◌, subst}
+use Rattle.std.proofs.Common.{◌≡◌, ◌++◌, ◌∷◌, [], false, sym, ap, ◌∙◌, subst}
 use Rattle.sample_binder.specs.Binder.{Bound, StandsFor, Follows}
 use Rattle.sample_binder.specs.Calls.{EndCall}
 use Rattle.sample_binder.proofs.NextLemmas.{may_drain_now, follows_told}

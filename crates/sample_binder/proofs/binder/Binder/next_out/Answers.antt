@@ -1,5 +1,5 @@
-use Rattle.std.proofs.Common.{◌≡◌, ◌+◌, ◌∷◌, [], Some, None, Option, ℕ, true, false, slice_get, sym, ap, ◌∙◌, subst}
-use Rattle.sample_binder.specs.Binder.{Bound, IsBound, StandsFor, Follows, AreSeen}
+use Rattle.std.proofs.Common.{◌≡◌, ◌+◌, Some, None, Option, slice_get, sym, ◌∙◌, subst}
+use Rattle.sample_binder.specs.Binder.{Bound, StandsFor, Follows, AreSeen}
 use Rattle.context_timeline.specs.Line.{Line}
 use Rattle.sample_binder.specs.Calls.{outputs_of}
 use Rattle.sample_binder.specs.declared.out.Out.{Out}

@@ -1,4 +1,4 @@
-use Rattle.std.proofs.Common.{◌≡◌, ◌+◌, ◌<◌, ◌≤◌, ◌↔◌, IsTrue, length, sym, subst, arith}
+use Rattle.std.proofs.Common.{◌+◌, ◌<◌, ◌≤◌, ◌↔◌, IsTrue, length, sym, subst, arith}
 use Rattle.sample_binder.specs.Binder.{Bound, StandsFor, Follows}
 use Rattle.sample_binder.specs.Calls.{outputs_of}
 use Rattle.sample_binder.proofs.NextLemmas.{owes_due, held_within}

@@ -1,10 +1,9 @@
-use Rattle.std.proofs.Common.{◌≡◌, ◌<◌, ◌++◌, ◌∷◌, [], List, Option, IfSome, true, sym, ap, ◌∙◌, subst, arith}
-use Rattle.sample_binder.specs.declared.pending.Pending.{Pending}
+use Rattle.std.proofs.Common.{◌<◌, ◌++◌, ◌∷◌, [], IfSome, sym, ap, ◌∙◌, subst}
 use Rattle.context_timeline.specs.Line.{Line, horizon_of, stamp_in, timed_context}
 use Rattle.vrt_time.specs.Time.{moment_of}
-use Rattle.sample_binder.specs.Events.{Event, ContextEvent, DataEvent, EndEvent}
-use Rattle.sample_binder.specs.Queue.{State, owed, StandsFor, IsState, IsBinding}
-use Rattle.sample_binder.proofs.StateLemmas.{stands-context, stands-data, stands-end, IsState-context, IsState-data, IsState-end, sampling_of, idle}
+use Rattle.sample_binder.specs.Events.{ContextEvent}
+use Rattle.sample_binder.specs.Queue.{State, owed, StandsFor, IsState}
+use Rattle.sample_binder.proofs.StateLemmas.{stands-context, IsState-context, sampling_of}
 use Rattle.sample_binder.proofs.binding.Binding.context.Goals as goal
 
 pub add-requires-clause-later : goal.add-requires-clause-later

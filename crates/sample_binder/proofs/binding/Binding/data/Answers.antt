@@ -1,10 +1,8 @@
-use Rattle.std.proofs.Common.{◌≡◌, ◌<◌, ◌++◌, ◌∷◌, [], List, Option, IfSome, true, sym, ap, ◌∙◌, subst, arith}
+use Rattle.std.proofs.Common.{◌++◌, ◌∷◌, [], List, sym, ap, ◌∙◌, subst, arith}
 use Rattle.sample_binder.specs.declared.pending.Pending.{Pending}
-use Rattle.context_timeline.specs.Line.{Line, horizon_of, stamp_in, timed_context}
-use Rattle.vrt_time.specs.Time.{moment_of}
-use Rattle.sample_binder.specs.Events.{Event, ContextEvent, DataEvent, EndEvent}
-use Rattle.sample_binder.specs.Queue.{State, owed, StandsFor, IsState, IsBinding}
-use Rattle.sample_binder.proofs.StateLemmas.{stands-context, stands-data, stands-end, IsState-context, IsState-data, IsState-end, sampling_of, idle}
+use Rattle.sample_binder.specs.Events.{DataEvent}
+use Rattle.sample_binder.specs.Queue.{State, owed, StandsFor, IsState}
+use Rattle.sample_binder.proofs.StateLemmas.{stands-data, IsState-data, idle}
 use Rattle.sample_binder.proofs.binding.Binding.data.Goals as goal
 
 pub push_back_reserved-requires : goal.push_back_reserved-requires

@@ -1,8 +1,7 @@
-use Rattle.std.proofs.Common.{◌≡◌, ◌+◌, ◌∷◌, IfSome, OnSome, Option, sym, ap, ◌∙◌, subst, arith}
-use Rattle.sample_binder.specs.declared.leaving.Leaving.{Leaving}
+use Rattle.std.proofs.Common.{◌≡◌, ◌∷◌, IfSome, sym, subst, arith}
 use Rattle.sample_binder.specs.declared.out.Out.TheVariants as out
-use Rattle.sample_binder.specs.Queue.{State, owed, StandsFor, IsState, IsBinding}
-use Rattle.sample_binder.proofs.GiveLemmas.{with_leaving, with_queue, owed-run, stands-run, IsNext, next-packet}
+use Rattle.sample_binder.specs.Queue.{State, owed, StandsFor}
+use Rattle.sample_binder.proofs.GiveLemmas.{owed-run, stands-run, IsNext, next-packet}
 use Rattle.sample_binder.proofs.binding.Binding.next_out.Goals as goal
 
 pub returns-in-Some-clause-history : goal.returns-in-Some-clause-history

@@ -1,4 +1,4 @@
-use Rattle.std.proofs.Common.{◌≡◌, ◌≢◌, ◌↔◌, [], IsTrue, subst}
+use Rattle.std.proofs.Common.{◌≢◌, ◌↔◌, [], IsTrue, subst}
 use Rattle.sample_binder.specs.Queue.{State, owed}
 use Rattle.sample_binder.proofs.GiveLemmas.{owes-told, owes-first_told}
 use Rattle.sample_binder.proofs.binding.Binding.owes.Goals as goal
