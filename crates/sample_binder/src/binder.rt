@@ -173,6 +173,7 @@ impl Binder {
     /// Whether `next_out` would give something.
     pub fn owes(&self) -> bool
         ensures owes { IsTrue result ↔ (owed self.now.state ≢ []) }
+        ensures nothing { result ≡ false → owed self.now.state ≡ [] }
         ensures due { (calls : List Call) (taken : ℕ) → StandsFor self.now calls taken
             → IsTrue result ↔ (taken < length (outputs_of self.now.limits calls)) }
 

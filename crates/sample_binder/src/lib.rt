@@ -23,6 +23,8 @@ mod runs;
 mod sampled;
 mod sampling;
 mod shape;
+#[cfg(test)]
+mod tests;
 mod turned;
 
 pub use crate::binder::Binder;

@@ -1,4 +1,6 @@
-use Rattle.std.proofs.Common.{◌+◌, ◌<◌, ◌≤◌, ◌↔◌, IsTrue, length, sym, subst, arith}
+use Rattle.std.proofs.Common.{◌+◌, ◌<◌, ◌≤◌, ◌↔◌, IsTrue, length, [], false, sym, ap, ◌∙◌, subst, arith}
+use Rattle.sample_binder.specs.Queue.{owed}
+use Rattle.sample_binder.proofs.DrainLemmas.{none_owed}
 use Rattle.sample_binder.specs.Binder.{Bound, StandsFor, Follows}
 use Rattle.sample_binder.specs.Calls.{outputs_of}
 use Rattle.sample_binder.proofs.NextLemmas.{owes_due, held_within}
@@ -17,3 +19,7 @@ returns-clause-few c =
     let inside = c.self.inside in
     subst (λ (b : Bound). length b.packets.held + length b.state.queue ≤ b.limits.data_window + 1 + b.limits.pending) c.self.view_is
     (omega (arith, held_within inside.packets inside.told c.self.invariant.seen.packets_seen, c.owes.ensures.room, c.self.invariant.data_size, c.self.invariant.pending))
+
+pub returns-clause-nothing : goal.returns-clause-nothing
+returns-clause-nothing c = λ off.
+    sym (ap (λ (b : Bound). owed b.state) c.self.view_is) ∙ none_owed c.owes.result (owed c.self.inside.binding) c.owes.ensures.owes off
