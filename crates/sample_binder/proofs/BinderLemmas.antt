@@ -41,13 +41,31 @@ opened_state limits = record { pending = limits.pending; line = line_of limits.k
 
 opened_queue : (limits : Limits) → queue.StandsFor (opened_state limits) limits [] 0
 opened_queue limits = record {
-  pending = refl; line = refl; ended = refl; left = 0; left_within = omega arith; queue = refl; since = 0; are_due = refl; not_before = refl; taken_within = omega arith; rest = refl;
+  pending = refl;
+  line = refl;
+  ended = refl;
+  left = 0;
+  left_within = omega arith;
+  queue = refl;
+  since = 0;
+  are_due = refl;
+  not_before = refl;
+  taken_within = omega arith;
+  rest = refl;
 }
 
 pub opened : (limits : Limits) (contexts : Holding ContextRec) (packets : Holding Buffer) (state : State) → contexts.size ≡ limits.context_window → packets.size ≡ limits.data_window
     → window.StandsFor contexts [] 0 → window.StandsFor packets [] 0 → state ≡ opened_state limits → Follows limits contexts packets state false [] 0
 opened limits contexts packets state c d s t e = record {
-  context_size = c; data_size = d; contexts_drained = 0; contexts_stand = s; packets_drained = 0; packets_stand = t; is_told_too = refl; undrained = λ h. (refl, refl); done = [];
+  context_size = c;
+  data_size = d;
+  contexts_drained = 0;
+  contexts_stand = s;
+  packets_drained = 0;
+  packets_stand = t;
+  is_told_too = refl;
+  undrained = λ h. (refl, refl);
+  done = [];
   queue_stands = subst (λ (st : State). queue.StandsFor st limits [] 0) (sym e) (opened_queue limits);
   left = refl;
 }

@@ -156,8 +156,14 @@ follows_end limits contexts packets state after calls taken none empty running e
     let behind_it : left_events limits calls c d after.ended ≡ [] =
     ap (λ b. cond b (cond after.ended [] (end_events limits calls c d)) []) told ∙ ap (λ b. cond b [] (end_events limits calls c d)) ended in
     record {
-      context_size = h.context_size; data_size = h.data_size; contexts_drained = c; contexts_stand = h.contexts_stand; packets_drained = d; packets_stand = h.packets_stand;
-      is_told_too = h.is_told_too; undrained = h.undrained;
+      context_size = h.context_size;
+      data_size = h.data_size;
+      contexts_drained = c;
+      contexts_stand = h.contexts_stand;
+      packets_drained = d;
+      packets_stand = h.packets_stand;
+      is_told_too = h.is_told_too;
+      undrained = h.undrained;
       done = h.done ++ EndEvent ∷ [];
       queue_stands = history h.done h.queue_stands;
       left = ap (λ es. (h.done ++ EndEvent ∷ []) ++ es) behind_it ∙ append-nil (h.done ++ EndEvent ∷ []) ∙ ap (λ es. h.done ++ es) (sym before) ∙ h.left;

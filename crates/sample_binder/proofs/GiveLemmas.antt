@@ -114,10 +114,11 @@ module _ (pending : ℕ) (line : Line) (ended : Bool) where
   first_leaves packet rest now sound e =
       let m = mark_in line (moment_of packet.shape.stamp) in
       let full = nat_lt pending (length (packet ∷ rest)) in
-      let h = taken_by (is_known_by line packet.shape m || (full || ended)) (leaving_by packet.shape why m) now e in
-      (sym (same_test (is_known_by line packet.shape m) full ended) ∙ h.0,
-       sym (ap (runs_left line why) h.1) ∙ by_runs line why packet.shape m,
-       subst (IsLeaving line why) h.1 (by_leaves line why packet.shape m (mark_sound line (moment_of packet.shape.stamp) sound)))
+      let h = taken_by (is_known_by line packet.shape m || (full || ended)) (leaving_by packet.shape why m) now e in (
+        sym (same_test (is_known_by line packet.shape m) full ended) ∙ h.0,
+        sym (ap (runs_left line why) h.1) ∙ by_runs line why packet.shape m,
+        subst (IsLeaving line why) h.1 (by_leaves line why packet.shape m (mark_sound line (moment_of packet.shape.stamp) sound)),
+      )
 
   -- or waits
   pub none_due : (queue : List Pending) → first_decided pending line ended queue ≡ None → queue_owes pending line ended queue ≡ []
@@ -174,7 +175,15 @@ module _ (old : State) (limits : Limits) (events : List Event) (taken : ℕ) (h 
   stands-run given rest e =
       let d = drop_next taken (outputs limits events) given (owed (with_leaving old rest)) (h.rest ∙ e) in
       record {
-        pending = h.pending; line = h.line; ended = h.ended; left = h.left; left_within = h.left_within; queue = h.queue; since = h.since; are_due = h.are_due; not_before = h.not_before;
+        pending = h.pending;
+        line = h.line;
+        ended = h.ended;
+        left = h.left;
+        left_within = h.left_within;
+        queue = h.queue;
+        since = h.since;
+        are_due = h.are_due;
+        not_before = h.not_before;
         taken_within = d.0;
         rest = d.1;
       }
@@ -214,7 +223,9 @@ module _ (old : State) (limits : Limits) (events : List Event) (taken : ℕ) (h 
       let one : suc (h.left + 1) ≡ h.left + 1 + 1 = omega arith in
       let next : h.left + 1 ≡ suc h.left = omega arith in
       record {
-        pending = h.pending; line = h.line; ended = h.ended;
+        pending = h.pending;
+        line = h.line;
+        ended = h.ended;
         left = h.left + 1;
         left_within = omega (arith, h.left_within, ap length (sym h.queue ∙ g.first), length-drop h.left (packets_of events));
         queue = sym here.1 ∙ ap (λ k. drop k (packets_of events)) (sym next);

@@ -34,7 +34,10 @@ told_packets holding told s = record { arrivals = s.arrivals; drained = s.draine
 
 pub may_drain_now : (bound : Bound) → IsBound bound → MayDrain bound.contexts bound.state.line
 may_drain_now bound h = record {
-  kept = bound.limits.kept; given = bound.given; some = omega (arith, h.limits.least_kept); few = h.few;
+  kept = bound.limits.kept;
+  given = bound.given;
+  some = omega (arith, h.limits.least_kept);
+  few = h.few;
   seen = told_contexts bound.limits.kept bound.given bound.contexts bound.state.line bound.told h.seen.contexts_seen;
 }
 
@@ -75,8 +78,15 @@ pub follows_next : (limits : Limits) (contexts : Holding ContextRec) (packets : 
     → ((events : List Event) → queue.StandsFor state limits events taken → queue.StandsFor after limits events (taken + 1))
     → Follows limits contexts packets state told calls taken → Follows limits contexts packets after told calls (taken + 1)
 follows_next limits contexts packets state after told calls taken ended history h = record {
-  context_size = h.context_size; data_size = h.data_size; contexts_drained = h.contexts_drained; contexts_stand = h.contexts_stand; packets_drained = h.packets_drained; packets_stand = h.packets_stand;
-  is_told_too = h.is_told_too; undrained = h.undrained; done = h.done;
+  context_size = h.context_size;
+  data_size = h.data_size;
+  contexts_drained = h.contexts_drained;
+  contexts_stand = h.contexts_stand;
+  packets_drained = h.packets_drained;
+  packets_stand = h.packets_stand;
+  is_told_too = h.is_told_too;
+  undrained = h.undrained;
+  done = h.done;
   queue_stands = history h.done h.queue_stands;
   left = ap (λ b. h.done ++ left_events limits calls h.contexts_drained h.packets_drained b) ended ∙ h.left;
 }
@@ -88,9 +98,10 @@ module _ (limits : Limits) (contexts : Holding ContextRec) (packets : Holding Bu
   next_among given rest e =
       let later = left_events limits calls h.contexts_drained h.packets_drained state.ended in
       let p = outputs-prefix limits later h.done in
-      let all : outputs_of limits calls ≡ outputs limits h.done ++ p.0 = ap (outputs limits) (sym h.left) ∙ p.1 in
-      (rest ++ p.0,
-       ap (drop taken) all ∙ drop-append-le taken (outputs limits h.done) p.0 h.queue_stands.taken_within ∙ ap (λ xs. xs ++ p.0) (h.queue_stands.rest ∙ e))
+      let all : outputs_of limits calls ≡ outputs limits h.done ++ p.0 = ap (outputs limits) (sym h.left) ∙ p.1 in (
+        rest ++ p.0,
+        ap (drop taken) all ∙ drop-append-le taken (outputs limits h.done) p.0 h.queue_stands.taken_within ∙ ap (λ xs. xs ++ p.0) (h.queue_stands.rest ∙ e),
+      )
 
   pub given_next : (given : Out) (rest : List Out) → owed state ≡ given ∷ rest → Some given ≡ slice_get (outputs_of limits calls) taken
   given_next given rest e =

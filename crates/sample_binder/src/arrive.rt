@@ -16,7 +16,12 @@ use vrt_time::Stamp;
 use vrt_words::PacketBuf;
 
 // A packet arrives at its window: what it releases, or why it is not taken.
-pub(crate) fn arrive<T: HeldItem>(window: &mut Window<T>, stamp: Stamp, count: u8, item: T) -> Result<Option<(Stamp, u8, T)>, (Turned, T)>
+pub(crate) fn arrive<T: HeldItem>(
+    window: &mut Window<T>,
+    stamp: Stamp,
+    count: u8,
+    item: T,
+) -> Result<Option<(Stamp, u8, T)>, (Turned, T)>
     requires { count ≤ 15 }
     ensures answer { (arrivals : List (Entry T)) → StandsFor window.old arrivals 0
         → result ≡ outcome (answer T.is_same window.old.size arrivals (record { stamp = stamp; count = count; item = item })) }
@@ -38,7 +43,10 @@ pub(crate) fn arrive<T: HeldItem>(window: &mut Window<T>, stamp: Stamp, count: u
 }
 
 // A context arrives at its window.
-pub(crate) fn arrive_context(window: &mut Window<ContextRec>, rec: ContextRec) -> Result<Option<(Stamp, u8, ContextRec)>, (Turned, ContextRec)>
+pub(crate) fn arrive_context(
+    window: &mut Window<ContextRec>,
+    rec: ContextRec,
+) -> Result<Option<(Stamp, u8, ContextRec)>, (Turned, ContextRec)>
     requires grammar { IsInGrammar rec }
     requires count { rec.prologue.header.count ≤ 15 }
     ensures takes { (arrivals : List (Entry ContextRec)) → StandsFor window.old arrivals 0
@@ -53,7 +61,10 @@ pub(crate) fn arrive_context(window: &mut Window<ContextRec>, rec: ContextRec) -
 }
 
 // A data packet arrives at its window.
-pub(crate) fn arrive_data(window: &mut Window<PacketBuf>, buf: PacketBuf) -> Result<Option<(Stamp, u8, PacketBuf)>, (Turned, PacketBuf)>
+pub(crate) fn arrive_data(
+    window: &mut Window<PacketBuf>,
+    buf: PacketBuf,
+) -> Result<Option<(Stamp, u8, PacketBuf)>, (Turned, PacketBuf)>
     requires front { IsDataBytes buf.bytes }
     ensures takes { (arrivals : List (Entry Buffer)) → StandsFor window.old arrivals 0
         → Takes ⟦<PacketBuf as HeldItem>⟧.is_same window.old window.new arrivals (data_entry buf) result }

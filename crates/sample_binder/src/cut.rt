@@ -48,7 +48,12 @@ fn mark_end(timeline: &Timeline, samples: &Sampled, sample: u32) -> (Mark, u32)
 }
 
 // The label of a sample, and the first sample behind it that has another one, or the number of samples.
-pub(crate) fn stretch(timeline: &Timeline, samples: &Sampled, why: Reason, first: u32) -> (Label, u32)
+pub(crate) fn stretch(
+    timeline: &Timeline,
+    samples: &Sampled,
+    why: Reason,
+    first: u32,
+) -> (Label, u32)
     requires sampling { HasSampling samples.now.fields }
     requires there { first < samples.now.number }
     ensures { IsStretch (label_at timeline.now why samples.now.stamp samples.now.fields) samples.now.number first result.0 result.1 }

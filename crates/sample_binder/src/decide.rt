@@ -24,13 +24,7 @@ pub(crate) fn decide(timeline: &Timeline, shape: &Shape, must: bool, why: Reason
 {
     let mark = timeline.mark(shape.stamp.moment());
     match mark {
-        Mark::Open => {
-            if must {
-                Some(raw(why, shape))
-            } else {
-                None
-            }
-        }
+        Mark::Open => { if must { Some(raw(why, shape)) } else { None } }
         Mark::BeforeFirst => Some(raw(Reason::BeforeFirst, shape)),
         Mark::TimelineFull => Some(raw(Reason::TimelineFull, shape)),
         Mark::Lost(lost) => Some(raw(Reason::ContextLost(lost), shape)),
@@ -50,7 +44,12 @@ fn raw(reason: Reason, shape: &Shape) -> Leaving
 }
 
 // The same for a packet whose first sample has a context with these fields.
-fn decide_bound(timeline: &Timeline, shape: &Shape, must: bool, fields: &[u32; 19]) -> Option<Leaving>
+fn decide_bound(
+    timeline: &Timeline,
+    shape: &Shape,
+    must: bool,
+    fields: &[u32; 19],
+) -> Option<Leaving>
     requires sampling { HasSampling fields.now }
     requires shape { IsShape shape.now }
     ensures { result ≡ decided_bound timeline.now shape.now must fields.now (number_of shape.now (size_in fields.now)) }

@@ -15,7 +15,11 @@ use context_timeline::Timeline;
 use std::collections::VecDeque;
 
 // The next run of the packet that leaves, if one leaves.
-pub(crate) fn give_run(timeline: &Timeline, leaving: &mut Option<Leaving>, ended: bool) -> Option<Run>
+pub(crate) fn give_run(
+    timeline: &Timeline,
+    leaving: &mut Option<Leaving>,
+    ended: bool,
+) -> Option<Run>
     requires { IfSome leaving.old (IsLeaving timeline.now (open_reason ended)) }
     ensures run { IfSome result (λ run. runs_left_of timeline.now (open_reason ended) leaving.old
         ≡ run ∷ runs_left_of timeline.now (open_reason ended) leaving.new) }

@@ -12,5 +12,8 @@ pub(crate) enum Leaving {
         pad: u8,
     },
     /// Its samples from this one on.
-    Cut { samples: Sampled, first: u32 },
+    Cut {
+        samples: Sampled,
+        first: u32,
+    },
 }

@@ -22,7 +22,12 @@ pub(crate) fn why_open(ended: bool) -> Reason
 }
 
 // How the first of the packets that wait leaves, where it need not wait.
-pub(crate) fn decide_first(timeline: &Timeline, queue: &VecDeque<Pending>, pending: u32, ended: bool) -> Option<Leaving>
+pub(crate) fn decide_first(
+    timeline: &Timeline,
+    queue: &VecDeque<Pending>,
+    pending: u32,
+    ended: bool,
+) -> Option<Leaving>
     requires sound { AreSound timeline.now.kept }
     requires shapes { AreShapes queue.now.items }
     ensures { result ≡ first_decided pending timeline.now ended queue.now.items }

@@ -1,6 +1,5 @@
-use vrt_time::{Moment, Stamp};
-
 use crate::reason::Reason;
+use vrt_time::{Moment, Stamp};
 
 /// Samples of one data packet, one after another, of which the same is known.
 #[derive(Clone, Copy, Debug, PartialEq, Eq)]

@@ -15,7 +15,11 @@ use crate::sampling::{rate_of, size_of};
 use context_timeline::Timeline;
 
 // The next run of a packet that leaves, and what is left behind it.
-pub(crate) fn next_run(timeline: &Timeline, why: Reason, leaving: &Leaving) -> (Run, Option<Leaving>)
+pub(crate) fn next_run(
+    timeline: &Timeline,
+    why: Reason,
+    leaving: &Leaving,
+) -> (Run, Option<Leaving>)
     requires { IsLeaving timeline.now why leaving.now }
     ensures runs { runs_left timeline.now why leaving.now ≡ result.0 ∷ runs_left_of timeline.now why result.1 }
     ensures rest { IfSome result.1 (IsLeaving timeline.now why) }
@@ -34,13 +38,21 @@ pub(crate) fn next_run(timeline: &Timeline, why: Reason, leaving: &Leaving) -> (
 }
 
 // The stretch from this sample on as a run, and what is left behind it.
-fn next_stretch(timeline: &Timeline, why: Reason, samples: &Sampled, first: u32) -> (Run, Option<Leaving>)
+fn next_stretch(
+    timeline: &Timeline,
+    why: Reason,
+    samples: &Sampled,
+    first: u32,
+) -> (Run, Option<Leaving>)
     requires { IsCut timeline.now why samples.now first }
     ensures runs { runs_left timeline.now why (Leaving.Cut samples.now first) ≡ result.0 ∷ runs_left_of timeline.now why result.1 }
     ensures rest { IfSome result.1 (IsLeaving timeline.now why) }
 {
     let (label, end) = stretch(timeline, samples, why, first);
-    (run_of(samples, first, end - first, label), rest_of(samples, end))
+    (
+        run_of(samples, first, end - first, label),
+        rest_of(samples, end),
+    )
 }
 
 // So many samples of this label as a run.
