@@ -8,3 +8,4 @@ pub mod ArrivalLemmas
 pub mod BinderLemmas
 pub mod DrainLemmas
 pub mod NextLemmas
+pub mod LawLemmas

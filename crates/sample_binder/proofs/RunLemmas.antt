@@ -19,7 +19,7 @@ same_pair : (a b c d : ℕ) → (a == b && c == d) ≡ true → (a ≡ b) × (c 
 same_pair a b c d e = grind (arith, nat_tests)
 
 -- one that is the same as another is so to the same others
-same_as : (a b c : Label) → same_label a b ≡ true → same_label a c ≡ same_label b c
+pub same_as : (a b c : Label) → same_label a b ≡ true → same_label a c ≡ same_label b c
 same_as a b c e =
     let p = same_pair (label_number a) (label_number b) (label_detail a) (label_detail b) e in
     ap (λ n. n == label_number c && label_detail a == label_detail c) p.0 ∙ ap (λ d. label_number b == label_number c && d == label_detail c) p.1
@@ -73,7 +73,7 @@ skip labels number (suc j) m n (suc total) e h =
     ∙ skip labels number j (suc m) n total (omega arith) (λ k ge lt. h k (omega arith) (omega arith)) ∙ ap (λ k. cut_from labels number k n) on
 
 -- what is left from a start on is its stretch, and what is left behind it
-cut_first : (labels : ℕ → Label) (number first : ℕ) (label : Label) (end n : ℕ) → IsStretch labels number first label end → starts labels first ≡ true → n ≡ number - first
+pub cut_first : (labels : ℕ → Label) (number first : ℕ) (label : Label) (end n : ℕ) → IsStretch labels number first label end → starts labels first ≡ true → n ≡ number - first
     → cut_from labels number first n ≡ (first, end - first) ∷ cut_from labels number end (number - end)
 cut_first labels number first label end zero h start e = absurd (omega (arith, h.some, h.within))
 cut_first labels number first label end (suc n) h start e =

@@ -20,3 +20,4 @@ pub mod Released
 pub mod Binder
 pub mod PrefixLaws
 pub mod Drained
+pub mod Readings

@@ -10,7 +10,10 @@ mod decide;
 mod drain;
 mod front;
 mod give;
+#[cfg(test)]
+mod harness;
 mod label;
+mod laws;
 mod leaving;
 mod limits;
 mod out;
@@ -28,6 +31,7 @@ mod tests;
 mod turned;
 
 pub use crate::binder::Binder;
+pub use crate::laws::{data_packets_are_read, due_events_are_the_first, stretches_are_the_longest};
 pub use crate::limits::Limits;
 pub use crate::out::Out;
 pub use crate::reason::Reason;

@@ -1,4 +1,4 @@
-use Rattle.std.proofs.Common.{◌+◌, ◌<◌, ◌≤◌, ◌↔◌, IsTrue, length, [], false, sym, ap, ◌∙◌, subst, arith}
+use Rattle.std.proofs.Common.{◌+◌, ◌<◌, ◌≤◌, ◌↔◌, IsTrue, length, sym, ap, ◌∙◌, subst, arith}
 use Rattle.sample_binder.specs.Queue.{owed}
 use Rattle.sample_binder.proofs.DrainLemmas.{none_owed}
 use Rattle.sample_binder.specs.Binder.{Bound, StandsFor, Follows}
