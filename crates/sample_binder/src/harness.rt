@@ -322,6 +322,16 @@ pub(crate) struct Part {
     pub(crate) bits: u8,
 }
 
+pub(crate) fn samples_from(time: Time, first: u32, number: u32, after: u64, bits: u8) -> Part {
+    Part {
+        time,
+        first,
+        number,
+        after,
+        bits,
+    }
+}
+
 // A run of bound samples is next.
 pub(crate) fn bound(binder: &mut Binder, part: Part, fields: &[u32; 19]) -> Result<(), Fail>
     ensures profile { binder.new.profile ≡ binder.old.profile }

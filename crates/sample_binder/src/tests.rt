@@ -13,14 +13,8 @@ fn a_packet_leaves_at_the_second_context(rt: HostRuntime) -> Result<(), Fail> {
     context(&mut binder, at(2), 1, CHANGED, &FIELDS)?;
     assert!(rt; binder.owes());
     assert_eq!(rt; next_packet(&mut binder)?, 0);
-    let part = Part {
-        time: at(1),
-        first: 0,
-        number: 2,
-        after: 0,
-        bits: 16,
-    };
-    bound(&mut binder, part, &FIELDS)?;
+    let next = samples_from(at(1), 0, 2, 0, 16);
+    bound(&mut binder, next, &FIELDS)?;
     assert!(rt; !binder.owes());
     assert!(rt; binder.next_out().is_none());
     Ok(())
@@ -51,14 +45,8 @@ fn a_lost_context_is_told(rt: HostRuntime) -> Result<(), Fail> {
 fn a_loss_that_changed_nothing_is_healed(rt: HostRuntime) -> Result<(), Fail> {
     let mut binder = across_a_loss(rt.alloc(), 3, UNCHANGED, 0x500)?;
     next_packet(&mut binder)?;
-    let part = Part {
-        time: half_past(2),
-        first: 0,
-        number: 1,
-        after: SECOND + SECOND / 2,
-        bits: 16,
-    };
-    bound(&mut binder, part, &FIELDS)
+    let next = samples_from(half_past(2), 0, 1, SECOND + SECOND / 2, 16);
+    bound(&mut binder, next, &FIELDS)
 }
 
 // Contexts at 0, 1 and 2 s, and then a packet of four samples from 0 s on, at two hertz.
@@ -78,73 +66,27 @@ fn samples_on_both_sides_of_a_context_are_two_runs(rt: HostRuntime) -> Result<()
     let plain = fields(0x500, TWO_HERTZ, SIXTEEN);
     let other = fields(0x600, TWO_HERTZ, SIXTEEN);
     let mut binder = across_a_context(rt.alloc(), at(2), &other)?;
-    bound(
-        &mut binder,
-        Part {
-            time: at(1),
-            first: 0,
-            number: 2,
-            after: 0,
-            bits: 16,
-        },
-        &plain,
-    )?;
-    bound(
-        &mut binder,
-        Part {
-            time: at(1),
-            first: 2,
-            number: 2,
-            after: SECOND,
-            bits: 16,
-        },
-        &other,
-    )?;
+    bound(&mut binder, samples_from(at(1), 0, 2, 0, 16), &plain)?;
+    bound(&mut binder, samples_from(at(1), 2, 2, SECOND, 16), &other)
+}
+
+#[test]
+fn a_context_at_the_last_sample_has_that_sample(rt: HostRuntime) -> Result<(), Fail> {
+    let plain = fields(0x500, TWO_HERTZ, SIXTEEN);
+    let other = fields(0x600, TWO_HERTZ, SIXTEEN);
     let mut last = across_a_context(rt.alloc(), half_past(2), &other)?;
-    bound(
-        &mut last,
-        Part {
-            time: at(1),
-            first: 0,
-            number: 3,
-            after: 0,
-            bits: 16,
-        },
-        &plain,
-    )?;
-    let part = Part {
-        time: at(1),
-        first: 3,
-        number: 1,
-        after: SECOND + SECOND / 2,
-        bits: 16,
-    };
-    bound(&mut last, part, &other)
+    bound(&mut last, samples_from(at(1), 0, 3, 0, 16), &plain)?;
+    let next = samples_from(at(1), 3, 1, SECOND + SECOND / 2, 16);
+    bound(&mut last, next, &other)
 }
 
 #[test]
 fn samples_at_another_rate_are_uncertain(rt: HostRuntime) -> Result<(), Fail> {
     let plain = fields(0x500, TWO_HERTZ, SIXTEEN);
     let mut binder = across_a_context(rt.alloc(), at(2), &fields(0x600, FOUR_HERTZ, SIXTEEN))?;
-    bound(
-        &mut binder,
-        Part {
-            time: at(1),
-            first: 0,
-            number: 2,
-            after: 0,
-            bits: 16,
-        },
-        &plain,
-    )?;
-    let part = Part {
-        time: at(1),
-        first: 2,
-        number: 2,
-        after: SECOND,
-        bits: 16,
-    };
-    uncertain(&mut binder, part, Reason::FormatChanged)
+    bound(&mut binder, samples_from(at(1), 0, 2, 0, 16), &plain)?;
+    let next = samples_from(at(1), 2, 2, SECOND, 16);
+    uncertain(&mut binder, next, Reason::FormatChanged)
 }
 
 #[test]
@@ -177,25 +119,9 @@ fn an_open_tail_is_uncertain(rt: HostRuntime) -> Result<(), Fail> {
     data(&mut binder, buffer(alloc, at(1), 0, 0, &PAYLOAD, 4)?)?;
     data(&mut binder, buffer(alloc, at(3), 1, 0, &PAYLOAD, 1)?)?;
     next_packet(&mut binder)?;
-    bound(
-        &mut binder,
-        Part {
-            time: at(1),
-            first: 0,
-            number: 2,
-            after: 0,
-            bits: 16,
-        },
-        &plain,
-    )?;
-    let part = Part {
-        time: at(1),
-        first: 2,
-        number: 2,
-        after: SECOND,
-        bits: 16,
-    };
-    uncertain(&mut binder, part, Reason::PendingFull)
+    bound(&mut binder, samples_from(at(1), 0, 2, 0, 16), &plain)?;
+    let next = samples_from(at(1), 2, 2, SECOND, 16);
+    uncertain(&mut binder, next, Reason::PendingFull)
 }
 
 #[test]
@@ -238,13 +164,7 @@ fn a_payload_that_does_not_divide_leaves_whole(rt: HostRuntime) -> Result<(), Fa
     next_packet(&mut binder)?;
     bound(
         &mut binder,
-        Part {
-            time: half_past(1),
-            first: 0,
-            number: 2,
-            after: SECOND / 2,
-            bits: 4,
-        },
+        samples_from(half_past(1), 0, 2, SECOND / 2, 4),
         &four,
     )
 }
@@ -284,33 +204,13 @@ fn what_is_held_leaves_at_the_end(rt: HostRuntime) -> Result<(), Fail> {
     data(&mut binder, buffer(alloc, at(2), 1, 0, &PAYLOAD, 1)?)?;
     data(&mut binder, buffer(alloc, at(1), 0, 0, &PAYLOAD, 1)?)?;
     next_packet(&mut binder)?;
-    bound(
-        &mut binder,
-        Part {
-            time: at(1),
-            first: 0,
-            number: 1,
-            after: 0,
-            bits: 16,
-        },
-        &FIELDS,
-    )?;
+    bound(&mut binder, samples_from(at(1), 0, 1, 0, 16), &FIELDS)?;
     if binder.owes() {
         return Err(Fail::from("owes"));
     }
     binder.end();
     assert_eq!(rt; next_packet(&mut binder)?, 0);
-    bound(
-        &mut binder,
-        Part {
-            time: at(2),
-            first: 0,
-            number: 1,
-            after: SECOND,
-            bits: 16,
-        },
-        &FIELDS,
-    )?;
+    bound(&mut binder, samples_from(at(2), 0, 1, SECOND, 16), &FIELDS)?;
     assert!(rt; !binder.owes());
     Ok(())
 }
@@ -327,33 +227,11 @@ fn the_longest_packet_is_cut_at_each_context(rt: HostRuntime) -> Result<(), Fail
     context(&mut binder, at(4), 3, CHANGED, &first)?;
     data(&mut binder, longest(alloc)?)?;
     next_packet(&mut binder)?;
-    bound(
-        &mut binder,
-        Part {
-            time: at(1),
-            first: 0,
-            number: 16_369,
-            after: 0,
-            bits: 4,
-        },
-        &first,
-    )?;
-    let part = Part {
-        time: at(1),
-        first: 16_369,
-        number: 16_369,
-        after: SECOND / 2,
-        bits: 4,
-    };
-    bound(&mut binder, part, &second)?;
-    let part = Part {
-        time: at(1),
-        first: 32_738,
-        number: 32_738,
-        after: SECOND,
-        bits: 4,
-    };
-    bound(&mut binder, part, &first)?;
+    bound(&mut binder, samples_from(at(1), 0, 16_369, 0, 4), &first)?;
+    let next = samples_from(at(1), 16_369, 16_369, SECOND / 2, 4);
+    bound(&mut binder, next, &second)?;
+    let next = samples_from(at(1), 32_738, 32_738, SECOND, 4);
+    bound(&mut binder, next, &first)?;
     assert!(rt; !binder.owes());
     Ok(())
 }
