@@ -1,10 +1,39 @@
 //! Binds the samples of a stream's data packets to the contexts in force when they were captured.
 #![tactic(auto)]
 
+mod arrive;
+mod binder;
+mod binding;
+mod clock;
+mod cut;
+mod decide;
+mod drain;
+mod front;
+mod give;
+#[cfg(test)]
+mod harness;
+mod label;
+mod laws;
+mod leaving;
 mod limits;
+mod out;
+mod pending;
+mod queue;
 mod reason;
+mod release;
 mod run;
+mod runs;
+mod sampled;
+mod sampling;
+mod shape;
+#[cfg(test)]
+mod tests;
+mod turned;
 
+pub use crate::binder::Binder;
+pub use crate::laws::{data_packets_are_read, due_events_are_the_first, stretches_are_the_longest};
 pub use crate::limits::Limits;
+pub use crate::out::Out;
 pub use crate::reason::Reason;
 pub use crate::run::Run;
+pub use crate::turned::Turned;

@@ -1,0 +1,140 @@
+ghost use Rattle.std.specs.Prelude.{◌≡◌, ◌≢◌, ℕ, ◌+◌, ◌<◌, ◌≤◌, ◌^◌, ◌↔◌, suc, true, false, List, [], ◌∷◌, ◌++◌, None, length, slice_get, IsTrue, IfOk, IfSome, IfNone, OnSome};
+ghost use Rattle.vrt_time.specs.Time.{moment_of};
+ghost use Rattle.difi_context.specs.Context.{IsInGrammar};
+ghost use Rattle.context_timeline.specs.Line.{line_of, with_context, timed_context, stamp_in, horizon_of};
+ghost use Rattle.sample_binder.specs.declared.limits.Limits.{Limits};
+ghost use Rattle.sample_binder.specs.Events.{Event, ContextEvent, DataEvent, EndEvent};
+ghost use Rattle.sample_binder.specs.Outputs.{outputs};
+ghost use Rattle.sample_binder.specs.Queue.{owed, StandsFor, IsShape};
+
+use crate::give::{give_packet, give_run};
+use crate::leaving::Leaving;
+use crate::out::Out;
+use crate::pending::Pending;
+use crate::queue::decide_first;
+use context_timeline::Timeline;
+use difi_context::ContextRec;
+use std::alloc::Global;
+use std::collections::VecDeque;
+use std::marker::Model;
+use vrt_words::NoMemory;
+
+/// The timeline of a stream, the data packets that wait for their contexts, and what is left of the
+/// one that leaves. One event a call, and what it brings is taken before the next.
+#[derive(Drop)]
+pub(crate) struct Binding {
+    pending: u32,
+    timeline: Timeline,
+    queue: VecDeque<Pending>,
+    leaving: Option<Leaving>,
+    ended: bool,
+}
+
+impl Model for Binding {
+    ghost use Rattle.std.specs.VecDeque.{deque_capacity};
+    ghost use Rattle.sample_binder.specs.Queue.{State, IsBinding};
+
+    ghost Value = { State };
+
+    ghost view = { λ b. record { pending = b.pending; line = b.timeline; queue = b.queue.items; leaving = b.leaving; ended = b.ended } };
+
+    ghost invariant = { λ b. IsBinding (record { pending = b.pending; line = b.timeline; queue = b.queue.items; leaving = b.leaving; ended = b.ended }) (deque_capacity b.queue) };
+}
+
+impl Binding {
+    /// One that keeps the last `kept` contexts, and lets so many packets wait.
+    pub(crate) fn open(alloc: Global, kept: u32, pending: u32) -> Result<Binding, NoMemory>
+        requires least { 2 ≤ kept }
+        requires most { kept ≤ 4096 }
+        requires few { pending ≤ 1048576 }
+        ensures { IfOk result (λ b. b ≡ record { pending = pending; line = line_of kept []; queue = []; leaving = None; ended = false }) }
+    {
+        let timeline = match Timeline::open(alloc, kept) {
+            Ok(timeline) => timeline,
+            Err(_) => return Err(NoMemory),
+        };
+        match VecDeque::with_capacity(alloc, pending as usize + 1) {
+            Ok(queue) => Ok(Binding {
+                pending,
+                timeline,
+                queue,
+                leaving: None,
+                ended: false,
+            }),
+            Err(_) => Err(NoMemory),
+        }
+    }
+
+    /// A context is released, before which so many were lost.
+    pub(crate) fn context(&mut self, rec: &ContextRec, lost: u8)
+        requires grammar { IsInGrammar rec.now }
+        requires later { IfSome (horizon_of self.old.line) (λ horizon. moment_of horizon < moment_of (stamp_in rec.now.prologue.stamp)) }
+        requires room { self.old.line.added + 1 < 2 ^ 64 }
+        requires nothing { owed self.old ≡ [] }
+        ensures state { self.new ≡ record self.old { line = with_context self.old.line (timed_context rec.now lost) } }
+        ensures history { (limits : Limits) (events : List Event) (taken : ℕ) → StandsFor self.old limits events taken
+            → StandsFor self.new limits (events ++ ContextEvent (timed_context rec.now lost) ∷ []) taken }
+    {
+        self.timeline.add(rec, lost);
+    }
+
+    /// A data packet is released.
+    pub(crate) fn data(&mut self, packet: Pending)
+        requires shape { IsShape packet.shape }
+        requires nothing { owed self.old ≡ [] }
+        ensures state { self.new ≡ record self.old { queue = self.old.queue ++ packet ∷ [] } }
+        ensures history { (limits : Limits) (events : List Event) (taken : ℕ) → StandsFor self.old limits events taken
+            → StandsFor self.new limits (events ++ DataEvent packet ∷ []) taken }
+    {
+        self.queue.push_back_reserved(packet);
+    }
+
+    /// The stream ends.
+    pub(crate) fn end(&mut self)
+        requires nothing { owed self.old ≡ [] }
+        ensures state { self.new ≡ record self.old { ended = true } }
+        ensures history { (limits : Limits) (events : List Event) (taken : ℕ) → StandsFor self.old limits events taken
+            → StandsFor self.new limits (events ++ EndEvent ∷ []) taken }
+    {
+        self.ended = true;
+    }
+
+    /// The next that is due: a packet, and then its runs. `None` exactly where nothing is owed.
+    pub(crate) fn next_out(&mut self) -> Option<Out>
+        ensures given { IfSome result (λ given. owed self.old ≡ given ∷ owed self.new) }
+        ensures none { IfNone result (owed self.old ≡ []) }
+        ensures same { IfNone result (self.new ≡ self.old) }
+        ensures line { self.new.line ≡ self.old.line }
+        ensures limit { self.new.pending ≡ self.old.pending }
+        ensures ended { self.new.ended ≡ self.old.ended }
+        ensures history { (limits : Limits) (events : List Event) (taken : ℕ) → StandsFor self.old limits events taken
+            → OnSome result (StandsFor self.new limits events (taken + 1)) }
+    {
+        if let Some(run) = give_run(&self.timeline, &mut self.leaving, self.ended) {
+            return Some(Out::Run(run));
+        }
+        give_packet(
+            &self.timeline,
+            &mut self.queue,
+            &mut self.leaving,
+            self.pending,
+            self.ended,
+        )
+    }
+
+    /// Whether something is owed.
+    pub(crate) fn owes(&self) -> bool
+        ensures owes { IsTrue result ↔ (owed self.now ≢ []) }
+        ensures room { length self.now.queue ≤ self.now.pending + 1 }
+    {
+        self.leaving.is_some()
+            || decide_first(&self.timeline, &self.queue, self.pending, self.ended).is_some()
+    }
+
+    /// Whether the end has come.
+    pub(crate) fn has_ended(&self) -> bool
+        ensures { result ≡ self.now.ended }
+    {
+        self.ended
+    }
+}

@@ -1,0 +1,51 @@
+ghost use Rattle.std.specs.Prelude.{◌≡◌, ◌<◌, ◌≤◌, length, slice_index};
+ghost use Rattle.vrt_words.specs.Words.{words_of};
+ghost use Rattle.sample_binder.specs.Calls.{data_stamp, data_count, shape_in};
+ghost use Rattle.sample_binder.specs.Given.{IsDataBytes};
+
+use crate::shape::Shape;
+use vrt_time::Stamp;
+use vrt_words::{bits_of, word_at};
+
+// The stamp of a data packet.
+pub(crate) fn stamp_of(bytes: &[u8]) -> Stamp
+    requires { IsDataBytes bytes.now }
+    ensures { result ≡ data_stamp bytes.now }
+{
+    match Stamp::of_parts(word(bytes, 4), word(bytes, 5), word(bytes, 6)) {
+        Some(stamp) => stamp,
+        None => unreachable!(),
+    }
+}
+
+// The packet count, modulo 16.
+pub(crate) fn count_of(bytes: &[u8]) -> u8
+    requires { IsDataBytes bytes.now }
+    ensures count { result ≡ data_count bytes.now }
+    ensures within { result ≤ 15 }
+{
+    bits_of(word(bytes, 0), 16, 4) as u8
+}
+
+// What counts of a data packet of this stamp beside its samples.
+pub(crate) fn shape_of(stamp: Stamp, bytes: &[u8]) -> Shape
+    requires { IsDataBytes bytes.now }
+    ensures { result ≡ shape_in stamp bytes.now }
+{
+    Shape {
+        stamp,
+        words: (bytes.len() / 4) as u32 - 7,
+        pad: bits_of(word(bytes, 2), 27, 5) as u8,
+    }
+}
+
+// A word of a datagram.
+fn word(bytes: &[u8], index: usize) -> u32
+    requires { index < length (words_of bytes.now) }
+    ensures { result ≡ slice_index (words_of bytes.now) index }
+{
+    match word_at(bytes, index) {
+        Some(word) => word,
+        None => unreachable!(),
+    }
+}

@@ -1,0 +1,69 @@
+ghost use Rattle.std.specs.Prelude.{◌≡◌, ◌∷◌, None, IfSome, IfNone};
+ghost use Rattle.std.specs.VecDeque.{deque_capacity};
+ghost use Rattle.sample_binder.specs.Left.{runs_left_of, IsLeaving};
+ghost use Rattle.sample_binder.specs.Outputs.{open_reason};
+ghost use Rattle.sample_binder.specs.Queue.{AreSound, AreShapes, first_decided};
+ghost use Rattle.sample_binder.specs.Steps.{GivesPacket};
+
+use crate::leaving::Leaving;
+use crate::out::Out;
+use crate::pending::Pending;
+use crate::queue::{decide_first, why_open};
+use crate::run::Run;
+use crate::runs::next_run;
+use context_timeline::Timeline;
+use std::collections::VecDeque;
+
+// The next run of the packet that leaves, if one leaves.
+pub(crate) fn give_run(
+    timeline: &Timeline,
+    leaving: &mut Option<Leaving>,
+    ended: bool,
+) -> Option<Run>
+    requires { IfSome leaving.old (IsLeaving timeline.now (open_reason ended)) }
+    ensures run { IfSome result (λ run. runs_left_of timeline.now (open_reason ended) leaving.old
+        ≡ run ∷ runs_left_of timeline.now (open_reason ended) leaving.new) }
+    ensures none { IfNone result (leaving.old ≡ None) }
+    ensures same { IfNone result (leaving.new ≡ None) }
+    ensures rest { IfSome leaving.new (IsLeaving timeline.now (open_reason ended)) }
+{
+    let now = match leaving {
+        Some(now) => *now,
+        None => return None,
+    };
+    let (run, rest) = next_run(timeline, why_open(ended), &now);
+    *leaving = rest;
+    Some(run)
+}
+
+// The first of the packets that wait, where it need not wait: it leaves.
+pub(crate) fn give_packet(
+    timeline: &Timeline,
+    queue: &mut VecDeque<Pending>,
+    leaving: &mut Option<Leaving>,
+    pending: u32,
+    ended: bool,
+) -> Option<Out>
+    requires sound { AreSound timeline.now.kept }
+    requires shapes { AreShapes queue.old.items }
+    requires none { leaving.old ≡ None }
+    ensures packet { IfSome result (λ given. GivesPacket pending timeline.now ended queue.old.items queue.new.items leaving.new given) }
+    ensures none { IfNone result (first_decided pending timeline.now ended queue.old.items ≡ None) }
+    ensures same_queue { IfNone result (queue.new.items ≡ queue.old.items) }
+    ensures same_leaving { IfNone result (leaving.new ≡ None) }
+    ensures room { deque_capacity queue.new ≡ deque_capacity queue.old }
+{
+    let first = match decide_first(timeline, queue, pending, ended) {
+        Some(first) => first,
+        None => return None,
+    };
+    let packet = match queue.pop_front() {
+        Some(packet) => packet,
+        None => unreachable!(),
+    };
+    *leaving = Some(first);
+    Some(Out::Packet {
+        buf: packet.buf,
+        lost: packet.lost,
+    })
+}
