@@ -1,0 +1,6 @@
+pub mod Positions
+pub mod Reasons
+pub mod Rules
+pub mod Layout
+pub mod Sizes
+pub mod Release

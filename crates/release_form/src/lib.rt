@@ -1,0 +1,12 @@
+//! The records that leave the gateway, which modems read: samples bound to their context, samples and
+//! packets without one, acknowledgements, refusals, versions, and the counts at the end.
+#![tactic(auto)]
+
+mod fields;
+mod positions;
+mod reasons;
+mod shown;
+mod size;
+
+pub use crate::shown::Shown;
+pub use crate::size::size_of;

@@ -1,0 +1,23 @@
+ghost use Rattle.std.specs.Prelude.{◌≡◌};
+ghost use Rattle.release_form.specs.Sizes.{size_with, IsBounded};
+
+use crate::shown::Shown;
+use sample_binder::Run;
+
+/// The length of a record in bytes, where `encode` is given so many bytes.
+pub fn size_of(shown: &Shown, bytes: usize) -> usize
+    requires { IsBounded shown.now bytes }
+    ensures { result ≡ size_with shown.now bytes }
+{
+    match shown {
+        Shown::Run { run, .. } => match run {
+            Run::Bound { number, .. } => 132 + 4 * *number as usize,
+            Run::Uncertain { number, .. } => 64 + 4 * *number as usize,
+            Run::Raw { .. } => 44 + bytes,
+        },
+        Shown::Ack { .. } => 12 + bytes,
+        Shown::Refused { .. } => 40,
+        Shown::Version { .. } => 12 + bytes,
+        Shown::End { .. } => 64,
+    }
+}
