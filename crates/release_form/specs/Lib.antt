@@ -4,3 +4,4 @@ pub mod Rules
 pub mod Layout
 pub mod Sizes
 pub mod Release
+pub mod Steps

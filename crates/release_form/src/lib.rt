@@ -4,6 +4,7 @@
 
 mod fields;
 mod positions;
+mod reading;
 mod reasons;
 mod shown;
 mod size;
