@@ -5,3 +5,4 @@ pub mod Layout
 pub mod Sizes
 pub mod Release
 pub mod Steps
+pub mod ReleaseLaws

@@ -2,6 +2,7 @@
 //! packets without one, acknowledgements, refusals, versions, and the counts at the end.
 #![tactic(auto)]
 
+mod decoding;
 mod fields;
 mod positions;
 mod reading;
@@ -9,5 +10,6 @@ mod reasons;
 mod shown;
 mod size;
 
+pub use crate::decoding::decode;
 pub use crate::shown::Shown;
 pub use crate::size::size_of;

@@ -1,4 +1,5 @@
 ghost use Rattle.std.specs.Prelude.{◌≡◌};
+ghost use Rattle.release_form.specs.Layout.{front_of};
 ghost use Rattle.release_form.specs.Sizes.{size_with, IsBounded};
 
 use crate::shown::Shown;
@@ -15,9 +16,24 @@ pub fn size_of(shown: &Shown, bytes: usize) -> usize
             Run::Uncertain { number, .. } => 64 + 4 * *number as usize,
             Run::Raw { .. } => 44 + bytes,
         },
-        Shown::Ack { .. } => 12 + bytes,
+        Shown::Ack { .. } | Shown::Version { .. } => 12 + bytes,
         Shown::Refused { .. } => 40,
-        Shown::Version { .. } => 12 + bytes,
+        Shown::End { .. } => 64,
+    }
+}
+
+/// The bytes in front of the variable part.
+pub(crate) fn front_len(shown: &Shown) -> usize
+    ensures { result ≡ front_of shown.now }
+{
+    match shown {
+        Shown::Run { run, .. } => match run {
+            Run::Bound { .. } => 132,
+            Run::Uncertain { .. } => 64,
+            Run::Raw { .. } => 44,
+        },
+        Shown::Ack { .. } | Shown::Version { .. } => 12,
+        Shown::Refused { .. } => 40,
         Shown::End { .. } => 64,
     }
 }
