@@ -7,6 +7,7 @@ mod fields;
 mod positions;
 mod reading;
 mod reasons;
+mod samples;
 mod shown;
 mod size;
 
