@@ -5,4 +5,5 @@ pub mod Layout
 pub mod Sizes
 pub mod Release
 pub mod Steps
+pub mod Front
 pub mod ReleaseLaws

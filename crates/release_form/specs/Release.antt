@@ -47,10 +47,13 @@ AreSamples bits first number payload part =
     bits_of_bytes part ≡ bits_of_samples 16 (samples_from bits (bits_of_bytes payload) first number)
 
 -- the variable part that a value has with a payload or a packet
+abbrev pub IsPartOfRun : Run → List ℕ → List ℕ → Type 0
+IsPartOfRun (Bound stamp first number moment fields bits) payload part = AreSamples bits first number payload part
+IsPartOfRun (Uncertain reason stamp first number moment bits) payload part = AreSamples bits first number payload part
+IsPartOfRun (Raw reason stamp pad) payload part = part ≡ payload
+
 abbrev pub IsPartOf : Shown → List ℕ → List ℕ → Type 0
-IsPartOf (ARun stream port lost (Bound stamp first number moment fields bits)) payload part = AreSamples bits first number payload part
-IsPartOf (ARun stream port lost (Uncertain reason stamp first number moment bits)) payload part = AreSamples bits first number payload part
-IsPartOf (ARun stream port lost (Raw reason stamp pad)) payload part = part ≡ payload
+IsPartOf (ARun stream port lost run) payload part = IsPartOfRun run payload part
 IsPartOf (Ack port) packet part = part ≡ packet
 IsPartOf (Refused frame port reason detail stamp) packet part = part ≡ []
 IsPartOf (Version port) packet part = part ≡ packet

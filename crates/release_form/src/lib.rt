@@ -3,7 +3,9 @@
 #![tactic(auto)]
 
 mod decoding;
+mod encoding;
 mod fields;
+mod front;
 mod positions;
 mod reading;
 mod reasons;
@@ -12,5 +14,6 @@ mod shown;
 mod size;
 
 pub use crate::decoding::decode;
+pub use crate::encoding::encode;
 pub use crate::shown::Shown;
 pub use crate::size::size_of;

@@ -1,22 +1,21 @@
-ghost use Rattle.std.specs.Prelude.{◌≡◌, ◌≤◌, IfSome, IfNone};
+ghost use Rattle.std.specs.Prelude.{◌≡◌, ◌≤◌, ◌∷◌, [], IfSome, IfNone};
 ghost use Rattle.sample_binder.specs.declared.reason.Reason.{Reason};
 ghost use Rattle.release_form.specs.Reasons.{IsReason, number_of, detail_of};
 
 use sample_binder::Reason;
 
 /// The number of a reason, and its detail.
-pub(crate) fn numbers_of(reason: Reason) -> (u32, u32)
-    ensures number { result.0 ≡ number_of reason }
-    ensures detail { result.1 ≡ detail_of reason }
+pub(crate) fn numbers_of(reason: Reason) -> [u32; 2]
+    ensures { result ≡ number_of reason ∷ detail_of reason ∷ [] }
 {
     match reason {
-        Reason::BeforeFirst => (1, 0),
-        Reason::ContextLost(lost) => (2, u32::from(lost)),
-        Reason::PendingFull => (3, 0),
-        Reason::TimelineFull => (4, 0),
-        Reason::Ended => (5, 0),
-        Reason::FormatChanged => (6, 0),
-        Reason::Shape => (7, 0),
+        Reason::BeforeFirst => [1, 0],
+        Reason::ContextLost(lost) => [2, u32::from(lost)],
+        Reason::PendingFull => [3, 0],
+        Reason::TimelineFull => [4, 0],
+        Reason::Ended => [5, 0],
+        Reason::FormatChanged => [6, 0],
+        Reason::Shape => [7, 0],
     }
 }
 
