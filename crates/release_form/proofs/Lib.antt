@@ -1,3 +1,4 @@
 pub mod Told
 pub mod Sixteen
 pub mod Written
+pub mod Laid
