@@ -100,8 +100,15 @@ counts_laid : (counts : List ℕ) (rest bytes : List ℕ) (body : ℕ) → words
 counts_laid (a ∷ b ∷ c ∷ d ∷ f ∷ g ∷ h ∷ []) rest bytes body e count =
     let at = λ (i : ℕ). ap (λ ws. get_or ws i 0) e in
     let same : (n i : ℕ) → word bytes i ≡ high_word n → word bytes (i + 1) ≡ low_word n → n ≡ double bytes i = λ n i p q. double_laid n bytes i p q in
-    cc (same a 2 (at 2) (at 3), same b 4 (at 4) (at 5), same c 6 (at 6) (at 7), same d 8 (at 8) (at 9), same f 10 (at 10) (at 11), same g 12 (at 12) (at 13),
-    same h 14 (at 14) (at 15))
+    cc (
+      same a 2 (at 2) (at 3),
+      same b 4 (at 4) (at 5),
+      same c 6 (at 6) (at 7),
+      same d 8 (at 8) (at 9),
+      same f 10 (at 10) (at 11),
+      same g 12 (at 12) (at 13),
+      same h 14 (at 14) (at 15),
+    )
 counts_laid counts rest bytes body e count = absurd (omega (arith, count))
 
 pub laid : (shown : Shown) (body : ℕ) (rest bytes : List ℕ) → words_of bytes ≡ front_words shown body ++ rest → IsTyped shown → IsLaidOut (as_read shown) bytes
@@ -121,12 +128,12 @@ laid (End counts) body rest bytes e typed = counts_laid counts rest bytes body e
 
 -- ---- what is read is written with the same kind, front, rules and lengths
 
-record ReadsSame (shown : Shown) : Type 0 where
-  kind_is : kind_of (as_read shown) ≡ kind_of shown
-  front_is : front_of (as_read shown) ≡ front_of shown
-  obeys : Obeys shown → Obeys (as_read shown)
-  part_length : (bytes part : ℕ) → GoesWith shown bytes → part ≡ part_size shown bytes → HasLength (as_read shown) part
-  words : (n : ℕ) × (front_of shown ≡ 4 * n)
+pub record ReadsSame (shown : Shown) : Type 0 where
+  pub kind_is : kind_of (as_read shown) ≡ kind_of shown
+  pub front_is : front_of (as_read shown) ≡ front_of shown
+  pub obeys : Obeys shown → Obeys (as_read shown)
+  pub part_length : (bytes part : ℕ) → GoesWith shown bytes → part ≡ part_size shown bytes → HasLength (as_read shown) part
+  pub words : (n : ℕ) × (front_of shown ≡ 4 * n)
 
 run_reads_same : (stream port lost : ℕ) (run : Run) → ReadsSame (ARun stream port lost run)
 run_reads_same stream port lost (Bound stamp first number moment fields bits) = record {
@@ -151,7 +158,7 @@ run_reads_same stream port lost (Raw reason stamp pad) = record {
   words = (11, refl);
 }
 
-reads_same : (shown : Shown) → ReadsSame shown
+pub reads_same : (shown : Shown) → ReadsSame shown
 reads_same (ARun stream port lost run) = run_reads_same stream port lost run
 reads_same (Ack port) = record { kind_is = refl; front_is = refl; obeys = λ o. o; part_length = λ bytes part g e. subst AreWholeWords (sym e) g; words = (3, refl) }
 reads_same (Refused frame port reason detail stamp) = record { kind_is = refl; front_is = refl; obeys = λ o. o; part_length = λ bytes part g e. e; words = (10, refl) }

@@ -2,3 +2,4 @@ pub mod Told
 pub mod Sixteen
 pub mod Written
 pub mod Laid
+pub mod Spelling

@@ -1,17 +1,19 @@
 -- Samples that are written with 16 bits an item.
-use Rattle.std.proofs.Common.{◌≡◌, ℕ, ◌+◌, ◌-◌, ◌*◌, ◌/◌, ◌^◌, ◌≤◌, ◌<◌, zero, suc, List, [], ◌∷◌, ◌++◌, length, take, drop, replicate, sym, ap, ap₂, ◌∙◌, arith}
+use Rattle.std.proofs.Common.{◌≡◌, ℕ, ◌+◌, ◌-◌, ◌*◌, ◌/◌, ◌^◌, ◌≤◌, ◌<◌, zero, suc, List, [], ◌∷◌, ◌++◌, length, take, drop, replicate, append-nil, sym, ap, ap₂, ◌∙◌, arith}
 use Rattle.std.specs.List.{All}
 use Rattle.std.proofs.lemmas.Int.{ints}
 use Rattle.std.proofs.lemmas.Slice.{take-put_mid}
+use Rattle.std.proofs.lemmas.List.FromFn.{length-map-range_with_len}
 use Rattle.std.proofs.lemmas.List.Concat.{flat_map-append}
 use borrow.Rule.Slice.PartMut.{put_mid}
 use Rattle.std.proofs.Math.Nat.{pow-le-pow_right}
 use Rattle.sample_unpack.specs.Bits.{bits_of_bytes, FitsBits}
-use Rattle.sample_unpack.specs.Samples.{LieWithin, SampleFits, bits_of_sample, bits_of_samples, samples_from, bits_from, words_for}
+use Rattle.sample_unpack.specs.Samples.{LieWithin, SampleFits, bits_of_sample, bits_of_samples, samples_from, sample_at, bits_from, words_for}
 use Rattle.sample_unpack.specs.declared.sample.Sample.{Sample}
 use Rattle.sample_unpack.proofs.Bits.{bits_of_bytes-append, bits_of_bytes-nil, take-bits_of_bytes, drop-bits_of_bytes}
 use Rattle.sample_unpack.proofs.Samples.{samples_from-add}
-use Rattle.sample_unpack.proofs.RoundTrip.{bits_kept}
+use Rattle.sample_unpack.proofs.RoundTrip.{bits_kept, read_back, samples_fit}
+use Rattle.release_form.specs.Sizes.{HoldsRun}
 use Rattle.release_form.specs.Release.{AreSamples}
 
 power_most : (w : ℕ) → w ≤ 16 → 2 ^ (w - 1) ≤ 2 ^ 15
@@ -59,3 +61,13 @@ more_samples w first done count k payload into part before now size within =
 
 pub none_written : bits_of_bytes [] ≡ []
 none_written = bits_of_bytes-nil
+
+-- and they are read again
+pub samples_again : (bits first number : ℕ) (payload part : List ℕ) → HoldsRun bits first number (length payload) → AreSamples bits first number payload part
+    → samples_from 16 (bits_of_bytes part) 0 number ≡ samples_from bits (bits_of_bytes payload) first number
+samples_again bits first number payload part h e =
+    let samples = samples_from bits (bits_of_bytes payload) first number in
+    let count : length samples ≡ number = length-map-range_with_len (sample_at bits (bits_of_bytes payload)) first number in
+    let fit = all_fit bits samples h.most_bits (samples_fit bits payload first number (omega (arith, h.least_bits)) h.within) in
+    ap (λ n. samples_from 16 (bits_of_bytes part) 0 n) (sym count)
+    ∙ read_back 16 samples (bits_of_bytes part) [] (omega arith) fit (e ∙ sym (append-nil (bits_of_samples 16 samples)))

@@ -44,21 +44,66 @@ one_run : (s p l s' p' l' : ℕ) (a b : Run) (part other bytes : List ℕ) → I
 one_run s p l s' p' l' (Bound t i n m f w) (Bound t' i' n' m' f' w') part other bytes h g =
     let x = h.positions in
     let y = g.positions in
-    cc (x.stream_is, x.port_is.port_is, x.lost_is, x.run_is.stamp_is.stamp_is, x.run_is.first_is, x.run_is.number_is, x.run_is.moment_is, x.run_is.fields_are,
-    x.run_is.sixteen, y.stream_is, y.port_is.port_is, y.lost_is, y.run_is.stamp_is.stamp_is, y.run_is.first_is, y.run_is.number_is, y.run_is.moment_is,
-    y.run_is.fields_are, y.run_is.sixteen)
+    cc (
+      x.stream_is,
+      x.port_is.port_is,
+      x.lost_is,
+      x.run_is.stamp_is.stamp_is,
+      x.run_is.first_is,
+      x.run_is.number_is,
+      x.run_is.moment_is,
+      x.run_is.fields_are,
+      x.run_is.sixteen,
+      y.stream_is,
+      y.port_is.port_is,
+      y.lost_is,
+      y.run_is.stamp_is.stamp_is,
+      y.run_is.first_is,
+      y.run_is.number_is,
+      y.run_is.moment_is,
+      y.run_is.fields_are,
+      y.run_is.sixteen,
+    )
 one_run s p l s' p' l' (Uncertain r t i n m w) (Uncertain r' t' i' n' m' w') part other bytes h g =
     let x = h.positions in
     let y = g.positions in
     let why = one_reason r r' (x.run_is.reason_is.number_is ∙ sym y.run_is.reason_is.number_is) (x.run_is.reason_is.detail_is ∙ sym y.run_is.reason_is.detail_is) in
-    cc (why, x.stream_is, x.port_is.port_is, x.lost_is, x.run_is.stamp_is.stamp_is, x.run_is.first_is, x.run_is.number_is, x.run_is.moment_is,
-    x.run_is.sixteen, y.stream_is, y.port_is.port_is, y.lost_is, y.run_is.stamp_is.stamp_is, y.run_is.first_is, y.run_is.number_is, y.run_is.moment_is, y.run_is.sixteen)
+    cc (
+      why,
+      x.stream_is,
+      x.port_is.port_is,
+      x.lost_is,
+      x.run_is.stamp_is.stamp_is,
+      x.run_is.first_is,
+      x.run_is.number_is,
+      x.run_is.moment_is,
+      x.run_is.sixteen,
+      y.stream_is,
+      y.port_is.port_is,
+      y.lost_is,
+      y.run_is.stamp_is.stamp_is,
+      y.run_is.first_is,
+      y.run_is.number_is,
+      y.run_is.moment_is,
+      y.run_is.sixteen,
+    )
 one_run s p l s' p' l' (Raw r t pad) (Raw r' t' pad') part other bytes h g =
     let x = h.positions in
     let y = g.positions in
     let why = one_reason r r' (x.run_is.reason_is.number_is ∙ sym y.run_is.reason_is.number_is) (x.run_is.reason_is.detail_is ∙ sym y.run_is.reason_is.detail_is) in
-    cc (why, x.stream_is, x.port_is.port_is, x.lost_is, x.run_is.stamp_is.stamp_is, x.run_is.pad_is, y.stream_is, y.port_is.port_is, y.lost_is,
-    y.run_is.stamp_is.stamp_is, y.run_is.pad_is)
+    cc (
+      why,
+      x.stream_is,
+      x.port_is.port_is,
+      x.lost_is,
+      x.run_is.stamp_is.stamp_is,
+      x.run_is.pad_is,
+      y.stream_is,
+      y.port_is.port_is,
+      y.lost_is,
+      y.run_is.stamp_is.stamp_is,
+      y.run_is.pad_is,
+    )
 one_run s p l s' p' l' a b part other bytes h g = absurd (omega (arith, h.kind_is, g.kind_is))
 
 -- bytes say one thing as a record
@@ -147,3 +192,11 @@ first_found w bytes e h =
       there = omega (arith, count);
       length_is = omega (arith, count, e, word-take 1 (w + 8) bytes (omega arith));
     }
+
+pub one_place : (a b : Shown) (part other : List ℕ) (m n : ℕ) (bytes : List ℕ) → StandsFirst a part m bytes → StandsFirst b other n bytes
+    → (a ≡ b) × (part ≡ other) × (m ≡ n)
+one_place a b part other m n bytes p q =
+    let f = first_of_release a part m bytes p in
+    let h = subst (λ xs. IsRelease a xs (take m bytes)) p.release.part_is p.release in
+    let same = read_first (take m bytes) bytes a b other n f h q in
+    (same.value_is, p.release.part_is ∙ same.part_is, sym (length-take-le m bytes p.within) ∙ same.size_is)

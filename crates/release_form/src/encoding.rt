@@ -24,6 +24,8 @@ pub fn encode(shown: &Shown, bytes: &[u8], into: &mut [u8]) -> usize
     requires room { size_with shown.now (length bytes.now) ≤ length into.old }
     ensures size { result ≡ size_with shown.now (length bytes.now) }
     ensures written { IsRecordOf shown.now bytes.now (take result into.new) }
+    ensures again { (other : List ℕ) → AreBytes other → IsRecordOf shown.now bytes.now other
+        → take result into.new ≡ other }
     ensures behind { drop result into.new ≡ drop result into.old }
 {
     let size = size_of(shown, bytes.len());

@@ -85,7 +85,15 @@ fn put_run(stream: u32, port: u16, lost: u8, run: &Run, body: u32, into: &mut [u
 }
 
 // The front of a refused frame, which is all of its record.
-fn put_refused(frame: u64, port: u16, reason: u8, detail: u32, stamp: &Option<Stamp>, body: u32, into: &mut [u8])
+fn put_refused(
+    frame: u64,
+    port: u16,
+    reason: u8,
+    detail: u32,
+    stamp: &Option<Stamp>,
+    body: u32,
+    into: &mut [u8],
+)
     requires { 40 ≤ length into.old }
     ensures words { words_of (take 40 into.new)
         ≡ 5 ∷ body ∷ high_word frame ∷ low_word frame ∷ port ∷ reason ∷ detail ∷ late_words stamp.now }

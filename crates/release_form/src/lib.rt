@@ -9,11 +9,15 @@ mod front;
 mod positions;
 mod reading;
 mod reasons;
+mod round_trip;
 mod samples;
 mod shown;
 mod size;
+#[cfg(test)]
+mod tests;
 
 pub use crate::decoding::decode;
 pub use crate::encoding::encode;
+pub use crate::round_trip::one_to_one;
 pub use crate::shown::Shown;
 pub use crate::size::size_of;

@@ -1,4 +1,3 @@
-
 use sample_binder::Run;
 use vrt_time::Stamp;
 

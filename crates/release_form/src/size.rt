@@ -1,6 +1,7 @@
-ghost use Rattle.std.specs.Prelude.{◌≡◌};
+ghost use Rattle.std.specs.Prelude.{◌≡◌, ℕ, List, length};
 ghost use Rattle.release_form.specs.Layout.{front_of};
 ghost use Rattle.release_form.specs.Sizes.{size_with, IsBounded};
+ghost use Rattle.release_form.specs.Release.{IsRecordOf};
 
 use crate::shown::Shown;
 use sample_binder::Run;
@@ -8,7 +9,9 @@ use sample_binder::Run;
 /// The length of a record in bytes, where `encode` is given so many bytes.
 pub fn size_of(shown: &Shown, bytes: usize) -> usize
     requires { IsBounded shown.now bytes }
-    ensures { result ≡ size_with shown.now bytes }
+    ensures size { result ≡ size_with shown.now bytes }
+    ensures whole { (payload written : List ℕ) → length payload ≡ bytes → IsRecordOf shown.now payload written
+        → length written ≡ result }
 {
     match shown {
         Shown::Run { run, .. } => match run {
