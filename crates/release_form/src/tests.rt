@@ -268,6 +268,16 @@ fn is_none_with(rt: &impl Abort, record: &[u32], position: usize, word: u32)
     assert!(rt; decode(&bytes).is_none());
 }
 
+// So many bytes of a record are none.
+fn is_none_of(rt: &impl Abort, record: &[u32], size: usize)
+    requires fits { length record.now ≤ 40 }
+    requires within { size ≤ 160 }
+{
+    let mut bytes = [0; 160];
+    put_words(&mut bytes, 0, record);
+    assert!(rt; decode(&bytes[..size]).is_none());
+}
+
 #[test]
 fn the_end_has_seven_counts(rt: HostRuntime) {
     let shown = Shown::End { counts: [0; 7] };
@@ -546,9 +556,8 @@ fn samples_may_have_the_reason_that_contexts_are_no_longer_kept(rt: HostRuntime)
 
 #[test]
 fn a_record_that_is_cut_is_none(rt: HostRuntime) {
-    let mut bytes = [0; 64];
-    put_words(&mut bytes, 0, &END);
-    assert!(rt; decode(&bytes).is_some());
-    assert!(rt; decode(&bytes[..63]).is_none());
-    assert!(rt; decode(&[]).is_none());
+    is_none_of(&rt, &END, 63);
+    is_none_of(&rt, &RAW, 47);
+    is_none_of(&rt, &RAW, 7);
+    is_none_of(&rt, &RAW, 0);
 }
