@@ -6,14 +6,13 @@ use borrow.Rule.Slice.PartMut.{put_mid}
 use Rattle.vrt_words.specs.Words.{words_of}
 use Rattle.vrt_words.specs.WordLaws.{words_of-append}
 use Rattle.vrt_time.specs.Time.{TimeStamp, stamp_of}
-use Rattle.sample_binder.specs.declared.reason.Reason.{Reason}
 use Rattle.sample_binder.specs.declared.run.Run.{Run}
 use Rattle.sample_binder.specs.declared.run.Run.TheVariants.{Bound, Uncertain, Raw}
 use Rattle.release_form.specs.Positions.{word, double, quadruple}
 use Rattle.release_form.specs.Rules.{Obeys}
-use Rattle.release_form.specs.Layout.{IsLaidOut, IsLateStampAt, IsOfStream, IsPortAt, IsReasonAt, IsStampAt, kind_of, front_of}
-use Rattle.release_form.specs.Sizes.{AreWholeWords, GoesWith, GoesWithRun, HasLength, HasRunLength, part_size, run_part_size}
-use Rattle.release_form.specs.Release.{IsRelease, IsRecordOf, IsPartOf, as_read, read_run}
+use Rattle.release_form.specs.Layout.{IsLaidOut, IsLateStampAt, IsOfStream, IsPortAt, IsStampAt, kind_of, front_of}
+use Rattle.release_form.specs.Sizes.{AreWholeWords, GoesWith, HasLength, part_size}
+use Rattle.release_form.specs.Release.{IsRecordOf, IsPartOf, as_read, read_run}
 use Rattle.release_form.specs.Front.{high_word, low_word, late_words, count_words, front_words, IsTyped, IsTypedRun, IsStampTyped}
 use Rattle.release_form.proofs.Written.{same_behind}
 use Rattle.release_form.specs.declared.shown.Shown.{Shown}

@@ -1,5 +1,5 @@
 -- Samples that are written with 16 bits an item.
-use Rattle.std.proofs.Common.{◌≡◌, ℕ, ◌+◌, ◌-◌, ◌*◌, ◌/◌, ◌^◌, ◌≤◌, ◌<◌, zero, suc, List, [], ◌∷◌, ◌++◌, length, take, drop, replicate, append-nil, sym, ap, ap₂, ◌∙◌, arith}
+use Rattle.std.proofs.Common.{◌≡◌, ℕ, ◌+◌, ◌-◌, ◌*◌, ◌^◌, ◌≤◌, List, [], ◌++◌, length, take, drop, append-nil, sym, ap, ap₂, ◌∙◌, arith}
 use Rattle.std.specs.List.{All}
 use Rattle.std.proofs.lemmas.Int.{ints}
 use Rattle.std.proofs.lemmas.Slice.{take-put_mid}
@@ -7,8 +7,8 @@ use Rattle.std.proofs.lemmas.List.FromFn.{length-map-range_with_len}
 use Rattle.std.proofs.lemmas.List.Concat.{flat_map-append}
 use borrow.Rule.Slice.PartMut.{put_mid}
 use Rattle.std.proofs.Math.Nat.{pow-le-pow_right}
-use Rattle.sample_unpack.specs.Bits.{bits_of_bytes, FitsBits}
-use Rattle.sample_unpack.specs.Samples.{LieWithin, SampleFits, bits_of_sample, bits_of_samples, samples_from, sample_at, bits_from, words_for}
+use Rattle.sample_unpack.specs.Bits.{bits_of_bytes}
+use Rattle.sample_unpack.specs.Samples.{LieWithin, SampleFits, bits_of_sample, bits_of_samples, samples_from, sample_at, words_for}
 use Rattle.sample_unpack.specs.declared.sample.Sample.{Sample}
 use Rattle.sample_unpack.proofs.Bits.{bits_of_bytes-append, bits_of_bytes-nil, take-bits_of_bytes, drop-bits_of_bytes}
 use Rattle.sample_unpack.proofs.Samples.{samples_from-add}

@@ -1,20 +1,19 @@
 -- A value with a payload or a packet has one record.
-use Rattle.std.proofs.Common.{◌≡◌, ℕ, zero, suc, ◌+◌, ◌-◌, ◌*◌, ◌/◌, ◌%◌, ◌^◌, ◌<◌, ◌≤◌, List, [], ◌∷◌, ◌++◌, map, length, take, drop, get_or, refl, sym, ap, ap₂, ◌∙◌, subst, Option, Some, None, take-append-drop, length-drop, arith}
+use Rattle.std.proofs.Common.{◌≡◌, ℕ, zero, suc, ◌+◌, ◌*◌, ◌/◌, ◌%◌, ◌^◌, ◌≤◌, List, [], ◌∷◌, ◌++◌, map, length, take, drop, get_or, refl, sym, ap, ap₂, ◌∙◌, subst, Option, Some, None, take-append-drop, arith}
 use Rattle.std.specs.List.{range_with_len}
 use Rattle.std.proofs.lemmas.List.{length-take-le, drop_more, take_at, drop_at, get_or-drop}
 use Rattle.std.proofs.Math.Seq.{take-add}
-use Rattle.vrt_words.specs.Words.{words_of, AreWords, AreBytes}
+use Rattle.vrt_words.specs.Words.{words_of, AreBytes}
 use Rattle.vrt_words.specs.WordLaws.{words_of-take, words_of-words, length-words_of, one_spelling, AreBytes-take}
-use Rattle.vrt_time.specs.Time.{TimeStamp, stamp_of}
+use Rattle.vrt_time.specs.Time.{TimeStamp}
 use Rattle.sample_unpack.specs.Bits.{bits_of, bits_of_bytes, number_of}
 use Rattle.sample_unpack.proofs.Bits.{number_of-bits_of, length-bits_of, bits_of_bytes-cons, length-bits_of_bytes}
-use Rattle.sample_binder.specs.declared.reason.Reason.{Reason}
 use Rattle.sample_binder.specs.declared.run.Run.{Run}
 use Rattle.sample_binder.specs.declared.run.Run.TheVariants.{Bound, Uncertain, Raw}
 use Rattle.release_form.specs.Positions.{word, double, quadruple, stamp_at}
-use Rattle.release_form.specs.Layout.{front_of, IsLateStampAt, IsStampAt}
+use Rattle.release_form.specs.Layout.{front_of, IsLateStampAt}
 use Rattle.release_form.specs.Release.{IsRelease, IsRecordOf, IsPartOf, IsPartOfRun, as_read}
-use Rattle.release_form.specs.Front.{high_word, low_word, stamp_words, moment_words, late_words, count_words, front_words}
+use Rattle.release_form.specs.Front.{high_word, low_word, late_words, count_words, front_words}
 use Rattle.release_form.proofs.Laid.{reads_same}
 use Rattle.release_form.specs.declared.shown.Shown.{Shown}
 use Rattle.release_form.specs.declared.shown.Shown.TheVariants.{Run as ARun, Ack, Refused, Version, End}

@@ -1,18 +1,17 @@
 -- What a record of each kind says, by its words.
-use Rattle.std.proofs.Common.{◌≡◌, ℕ, ◌+◌, ◌*◌, ◌%◌, ◌<◌, ◌≤◌, ◌^◌, ◌≢◌, List, [], ◌∷◌, length, take, drop, refl, sym, ap, ◌∙◌, subst, length-drop, Option, Some, None, IfNone, arith}
+use Rattle.std.proofs.Common.{◌≡◌, ℕ, ◌+◌, ◌%◌, ◌≤◌, ◌≢◌, List, length, take, drop, refl, ◌∙◌, subst, length-drop, Option, Some, None, IfNone, arith}
 use Rattle.vrt_words.specs.Words.{words_of}
-use Rattle.vrt_time.specs.Time.{TimeStamp, stamp_of, capture_at}
+use Rattle.vrt_time.specs.Time.{TimeStamp, capture_at}
 use Rattle.vrt_fields.specs.declared.field.Field.TheVariants.{SampleRate}
 use Rattle.difi_context.specs.Context.{field_of}
 use Rattle.sample_binder.specs.declared.reason.Reason.{Reason}
-use Rattle.sample_binder.specs.declared.run.Run.{Run}
 use Rattle.sample_binder.specs.declared.run.Run.TheVariants.{Bound, Uncertain, Raw}
 use Rattle.release_form.specs.Positions.{word, double, quadruple, stamp_at}
 use Rattle.release_form.specs.Rules.{AreFields, ObeysRefused}
 use Rattle.release_form.specs.Reasons.{IsReason, number_of}
-use Rattle.release_form.specs.Layout.{kind_of, IsLaidOut, IsLateStampAt, IsPortAt, IsStampAt}
+use Rattle.release_form.specs.Layout.{IsLaidOut, IsLateStampAt, IsPortAt, IsStampAt}
 use Rattle.release_form.specs.Release.{IsRelease}
-use Rattle.release_form.specs.Steps.{IsReadAs, IsNoRecord, IsSource, IsSpan}
+use Rattle.release_form.specs.Steps.{IsReadAs, IsSource, IsSpan}
 use Rattle.release_form.specs.declared.shown.Shown.{Shown}
 use Rattle.release_form.specs.declared.shown.Shown.TheVariants.{Run as ARun, Ack, Refused, Version, End}
 

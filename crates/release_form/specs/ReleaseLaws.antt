@@ -1,6 +1,6 @@
 -- Laws of release records: at most one stands first, and it says one thing.
-use Rattle.std.proofs.Common.{◌≡◌, ◌≢◌, ℕ, suc, ◌+◌, ◌-◌, ◌*◌, ◌<◌, ◌≤◌, ◌^◌, List, length, take, drop, get_or, refl, sym, ap, ◌∙◌, subst, ◌↔◌, Option, Some, None, IsSome, arith}
-use Rattle.std.proofs.lemmas.List.{length-take-le, take-take, get_or-take, take_rest}
+use Rattle.std.proofs.Common.{◌≡◌, ℕ, suc, ◌+◌, ◌*◌, ◌≤◌, List, length, take, drop, get_or, refl, sym, ap, ◌∙◌, subst, ◌↔◌, Option, Some, None, IsSome, arith}
+use Rattle.std.proofs.lemmas.List.{length-take-le, take-take, get_or-take}
 use Rattle.vrt_words.specs.Words.{words_of}
 use Rattle.vrt_words.specs.WordLaws.{words_of-take}
 use Rattle.vrt_time.specs.Time.{TimeStamp}
@@ -11,7 +11,7 @@ use Rattle.sample_binder.specs.declared.run.Run.TheVariants.{Bound, Uncertain, R
 use Rattle.release_form.specs.Positions.{word}
 use Rattle.release_form.specs.Reasons.{number_of, detail_of}
 use Rattle.release_form.specs.Layout.{front_of, kind_of_run, IsLateStampAt}
-use Rattle.release_form.specs.Release.{IsRelease, StandsFirst, IsRecordOf, IsPartOf, as_read}
+use Rattle.release_form.specs.Release.{IsRelease, StandsFirst}
 use Rattle.release_form.specs.Steps.{IsFirstRecord, IsReadAs, IsNoRecord}
 use Rattle.release_form.specs.declared.shown.Shown.{Shown}
 use Rattle.release_form.specs.declared.shown.Shown.TheVariants.{Run as ARun, Ack, Refused, Version, End}

@@ -1,5 +1,5 @@
 -- A record that stands first has the bytes that its length says, and says one thing.
-use Rattle.std.proofs.Common.{arith, refl, sym, ap, subst, ◌≡◌, ◌∙◌, ℕ, List, length, ◌-◌, take, drop}
+use Rattle.std.proofs.Common.{sym, ap, subst, ◌≡◌, ◌∙◌, ℕ, List, length, ◌-◌, take, drop}
 use Rattle.std.proofs.lemmas.List.{take_rest}
 use Rattle.release_form.specs.Layout.{front_of}
 use Rattle.release_form.specs.Release.{StandsFirst, IsPartOf, as_read}

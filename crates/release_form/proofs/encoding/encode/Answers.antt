@@ -1,7 +1,6 @@
 -- The words in front and the variable part are the record of the value.
-use Rattle.std.proofs.Common.{◌≡◌, ◌+◌, ◌-◌, ◌≤◌, length, drop, refl, ap, sym, ◌∙◌, arith}
+use Rattle.std.proofs.Common.{◌≡◌, ◌-◌, ◌≤◌, length, drop, refl, ap, sym, ◌∙◌, arith}
 use Rattle.std.proofs.lemmas.Grind.{common_steps}
-use Rattle.release_form.specs.Layout.{front_of}
 use Rattle.release_form.specs.Sizes.{part_size}
 use Rattle.release_form.specs.ReleaseLaws.{front_least}
 use Rattle.vrt_words.specs.WordLaws.{AreBytes-take}

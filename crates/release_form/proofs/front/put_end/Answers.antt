@@ -1,4 +1,4 @@
-use Rattle.std.proofs.Common.{◌∙◌, length, get_or, arith}
+use Rattle.std.proofs.Common.{◌∙◌, arith}
 use Rattle.release_form.proofs.Written.{next_count}
 use Rattle.release_form.proofs.front.put_end.Goals as goal
 

@@ -1,4 +1,4 @@
-use Rattle.std.proofs.Common.{◌≡◌, ℕ, ◌+◌, ◌*◌, ◌≤◌, ◌∷◌, take, drop}
+use Rattle.std.proofs.Common.{◌≡◌, ◌+◌, ◌*◌, ◌∷◌, take, drop}
 use Rattle.vrt_words.specs.Words.{words_of}
 use Rattle.release_form.specs.Front.{count_words}
 use Rattle.release_form.proofs.front.put_end.Given as goal

@@ -1,4 +1,4 @@
-use Rattle.std.proofs.Common.{◌+◌, ◌*◌, length, arith}
+use Rattle.std.proofs.Common.{◌+◌, ◌*◌, length}
 use Rattle.release_form.proofs.Written.{next_words, same_behind}
 use Rattle.release_form.proofs.front.put_next.Goals as goal
 

@@ -1,6 +1,6 @@
 use Rattle.std.proofs.Common.{arith, refl, ◌∙◌}
 use Rattle.release_form.specs.Steps.{IsNoRecord}
-use Rattle.release_form.proofs.Told.{if_none, reason_at, run_source, bound_span, reads_bound}
+use Rattle.release_form.proofs.Told.{if_none, run_source, bound_span, reads_bound}
 use Rattle.release_form.proofs.reading.read_bound.Goals as goal
 
 pub returns-in_err-stream-clause-none : goal.returns-in_err-stream-clause-none

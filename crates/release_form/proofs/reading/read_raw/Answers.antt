@@ -1,4 +1,4 @@
-use Rattle.std.proofs.Common.{arith, refl, ◌∙◌}
+use Rattle.std.proofs.Common.{arith, refl}
 use Rattle.release_form.specs.Steps.{IsNoRecord}
 use Rattle.release_form.proofs.Told.{if_none, reason_at, run_source, reads_raw}
 use Rattle.release_form.proofs.reading.read_raw.Goals as goal

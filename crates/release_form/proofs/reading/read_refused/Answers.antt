@@ -1,4 +1,4 @@
-use Rattle.std.proofs.Common.{arith, rules, refl}
+use Rattle.std.proofs.Common.{arith, rules}
 use Rattle.release_form.proofs.Told.{reads_refused}
 use Rattle.release_form.proofs.reading.read_refused.Goals as goal
 

@@ -1,4 +1,3 @@
-use Rattle.std.proofs.Common.{sym, ◌∙◌}
 use Rattle.release_form.specs.ReleaseLaws.{one_place}
 use Rattle.release_form.proofs.Spelling.{one_record}
 use Rattle.release_form.proofs.Sixteen.{samples_again}
