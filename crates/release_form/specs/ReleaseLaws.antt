@@ -1,5 +1,5 @@
 -- Laws of release records: at most one stands first, and it says one thing.
-use Rattle.std.proofs.Common.{◌≡◌, ℕ, suc, ◌+◌, ◌*◌, ◌≤◌, List, length, take, drop, get_or, refl, sym, ap, ◌∙◌, subst, ◌↔◌, Option, Some, None, IsSome, arith}
+use Rattle.std.proofs.Common.{get_or-drop, ◌≡◌, ℕ, suc, ◌+◌, ◌*◌, ◌≤◌, List, length, take, drop, get_or, refl, sym, ap, ◌∙◌, subst, ◌↔◌, Option, Some, None, IsSome, arith}
 use Rattle.std.proofs.lemmas.List.{length-take-le, take-take, get_or-take}
 use Rattle.vrt_words.specs.Words.{words_of}
 use Rattle.vrt_words.specs.WordLaws.{words_of-take}
@@ -8,6 +8,10 @@ use Rattle.sample_binder.specs.declared.reason.Reason.{Reason}
 use Rattle.sample_binder.specs.declared.reason.Reason.TheVariants.{BeforeFirst, ContextLost, PendingFull, TimelineFull, Ended, FormatChanged, Shape}
 use Rattle.sample_binder.specs.declared.run.Run.{Run}
 use Rattle.sample_binder.specs.declared.run.Run.TheVariants.{Bound, Uncertain, Raw}
+use Rattle.vrt_fields.specs.Format.{IsFormatFirst}
+use Rattle.difi_context.specs.Context.{IsInGrammar}
+use Rattle.difi_context.specs.declared.context.ContextRec.{ContextRec}
+use Rattle.release_form.specs.Rules.{AreFields}
 use Rattle.release_form.specs.Positions.{word}
 use Rattle.release_form.specs.Reasons.{number_of, detail_of}
 use Rattle.release_form.specs.Layout.{front_of, kind_of_run, IsLateStampAt}
@@ -200,3 +204,15 @@ one_place a b part other m n bytes p q =
     let h = subst (λ xs. IsRelease a xs (take m bytes)) p.release.part_is p.release in
     let same = read_first (take m bytes) bytes a b other n f h q in
     (same.value_is, p.release.part_is ∙ same.part_is, sym (length-take-le m bytes p.within) ∙ same.size_is)
+
+-- the fields of a context packet are fields of a context
+pub fields_of_context : (rec : ContextRec) → IsInGrammar rec → AreFields rec.fields
+fields_of_context rec g =
+    let words = g.spelled.words in
+    let h = g.spelled.packet in
+    let at : (i : ℕ) → get_or rec.fields i 0 ≡ get_or words (8 + i) 0 = λ i. ap (λ xs. get_or xs i 0) h.fields ∙ get_or-drop 8 words i 0 in
+    record {
+      rate = record { positive = omega (arith, at 11, h.rate.positive); least = omega (arith, at 11, at 12, h.rate.least) };
+      format_first = subst IsFormatFirst (sym (at 17)) h.format_first;
+      format_second = at 18 ∙ h.format_second;
+    }

@@ -45,7 +45,8 @@ fn put_run(stream: u32, port: u16, lost: u8, run: &Run, body: u32, into: &mut [u
     ensures behind { drop (front_of_run run.now) into.new ≡ drop (front_of_run run.now) into.old }
     ensures typed { IsTypedRun run.now }
 {
-    let source = [stream, u32::from(port), u32::from(lost)];
+    let port = u32::from(port);
+    let lost = u32::from(lost);
     match run {
         Run::Bound {
             stamp,
@@ -55,10 +56,8 @@ fn put_run(stream: u32, port: u16, lost: u8, run: &Run, body: u32, into: &mut [u
             fields,
             ..
         } => {
-            put_next(into, 0, &[1, body, source[0], source[1], source[2]]);
-            put_next(into, 5, &words_of_stamp(stamp));
-            put_next(into, 8, &[*first, *number]);
-            put_next(into, 10, &words_of_moment(at));
+            put_next(into, 0, &[1, body, stream, port, lost]);
+            put_span(into, 5, stamp, [*first, *number], at);
             put_next(into, 14, fields);
         }
         Run::Uncertain {
@@ -69,19 +68,30 @@ fn put_run(stream: u32, port: u16, lost: u8, run: &Run, body: u32, into: &mut [u
             at,
             ..
         } => {
-            put_next(into, 0, &[2, body, source[0], source[1], source[2]]);
+            put_next(into, 0, &[2, body, stream, port, lost]);
             put_next(into, 5, &numbers_of(*reason));
-            put_next(into, 7, &words_of_stamp(stamp));
-            put_next(into, 10, &[*first, *number]);
-            put_next(into, 12, &words_of_moment(at));
+            put_span(into, 7, stamp, [*first, *number], at);
         }
         Run::Raw { reason, stamp, pad } => {
-            put_next(into, 0, &[3, body, source[0], source[1], source[2]]);
+            put_next(into, 0, &[3, body, stream, port, lost]);
             put_next(into, 5, &numbers_of(*reason));
             put_next(into, 7, &words_of_stamp(stamp));
             put_next(into, 10, &[u32::from(*pad)]);
         }
     }
+}
+
+// The packet's stamp, the first sample and the number of samples, and the capture moment.
+fn put_span(into: &mut [u8], position: usize, stamp: &Stamp, samples: [u32; 2], at: &Moment)
+    requires { 4 * (position + 9) ≤ length into.old }
+    ensures words { words_of (take (4 * (position + 9)) into.new)
+        ≡ words_of (take (4 * position) into.old) ++ (stamp_words stamp.now ++ (samples ++ moment_words at.now)) }
+    ensures behind { (n : ℕ) → 4 * (position + 9) ≤ n → drop n into.new ≡ drop n into.old }
+    ensures typed { IsStampTyped stamp.now }
+{
+    put_next(into, position, &words_of_stamp(stamp));
+    put_next(into, position + 3, &samples);
+    put_next(into, position + 5, &words_of_moment(at));
 }
 
 // The front of a refused frame, which is all of its record.

@@ -220,61 +220,61 @@ fn bound(front: [u32; 14], fields: [u32; 19], samples: [u32; 2]) -> [u32; 35] {
 }
 
 // The record of a value with a payload or a packet.
-fn is_written(rt: &impl Abort, shown: &Shown, payload: &[u32], record: &[u32])
+fn is_written(rt: &impl Abort, shown: &Shown, payload: &[u32], words: &[u32])
     requires obeys { Obeys shown.now }
     requires given { GoesWith shown.now (4 * length payload.now) }
     requires fits { length payload.now ≤ 15 }
     requires room { size_with shown.now (4 * length payload.now) ≤ 160 }
-    requires record_fits { length record.now ≤ 40 }
+    requires record_fits { length words.now ≤ 40 }
 {
     let mut bytes = [0; 60];
     put_words(&mut bytes, 0, payload);
     let mut expected = [0xAA; 160];
-    put_words(&mut expected, 0, record);
+    put_words(&mut expected, 0, words);
     let mut written = [0xAA; 160];
     let payload = &bytes[..4 * payload.len()];
     let size = encode(shown, payload, &mut written);
-    assert_eq!(rt; size, 4 * record.len());
+    assert_eq!(rt; size, 4 * words.len());
     assert!(rt; written == expected);
 }
 
 // What a record says, and its variable part.
-fn is_read(rt: &impl Abort, record: &[u32], shown: &Shown, part: &[u32])
-    requires fits { length record.now ≤ 40 }
+fn is_read(rt: &impl Abort, words: &[u32], shown: &Shown, part: &[u32])
+    requires fits { length words.now ≤ 40 }
     requires part_fits { length part.now ≤ 15 }
 {
     let mut bytes = [0xAA; 160];
-    put_words(&mut bytes, 0, record);
+    put_words(&mut bytes, 0, words);
     let mut expected = [0; 60];
     put_words(&mut expected, 0, part);
     match decode(&bytes) {
         Some((found, lent, size)) => {
             assert!(rt; found == *shown);
             assert_eq!(rt; lent, &expected[..4 * part.len()]);
-            assert_eq!(rt; size, 4 * record.len());
+            assert_eq!(rt; size, 4 * words.len());
         }
         None => assert!(rt; false, "no record"),
     }
 }
 
-// With another word at a position, it is no record.
-fn is_none_with(rt: &impl Abort, record: &[u32], position: usize, word: u32)
-    requires fits { length record.now ≤ 40 }
+// With another word at a position, it is no words.
+fn is_none_with(rt: &impl Abort, words: &[u32], position: usize, word: u32)
+    requires fits { length words.now ≤ 40 }
     requires within { position < 40 }
 {
     let mut bytes = [0; 160];
-    put_words(&mut bytes, 0, record);
+    put_words(&mut bytes, 0, words);
     put_word(&mut bytes, position, word);
     assert!(rt; decode(&bytes).is_none());
 }
 
 // So many bytes of a record are none.
-fn is_none_of(rt: &impl Abort, record: &[u32], size: usize)
-    requires fits { length record.now ≤ 40 }
+fn is_none_of(rt: &impl Abort, words: &[u32], size: usize)
+    requires fits { length words.now ≤ 40 }
     requires within { size ≤ 160 }
 {
     let mut bytes = [0; 160];
-    put_words(&mut bytes, 0, record);
+    put_words(&mut bytes, 0, words);
     assert!(rt; decode(&bytes[..size]).is_none());
 }
 
@@ -423,7 +423,7 @@ fn samples_of_a_changed_format_go_both_ways(rt: HostRuntime) {
 
 #[test]
 fn four_bit_samples_are_written_with_sixteen(rt: HostRuntime) {
-    let record = [
+    let words = [
         2,
         0x40,
         1,
@@ -457,7 +457,7 @@ fn four_bit_samples_are_written_with_sixteen(rt: HostRuntime) {
         lost: 0,
         run,
     };
-    is_written(&rt, &shown, &[0x7F80_0000], &record);
+    is_written(&rt, &shown, &[0x7F80_0000], &words);
 }
 
 #[test]
@@ -535,8 +535,8 @@ fn a_run_outside_its_rules_is_no_record(rt: HostRuntime) {
 
 #[test]
 fn samples_may_have_the_reason_that_contexts_are_no_longer_kept(rt: HostRuntime) {
-    let mut record = UNCERTAIN;
-    record[5] = 4;
+    let mut words = UNCERTAIN;
+    words[5] = 4;
     let run = Run::Uncertain {
         reason: Reason::TimelineFull,
         stamp: stamp(START, 0),
@@ -551,7 +551,7 @@ fn samples_may_have_the_reason_that_contexts_are_no_longer_kept(rt: HostRuntime)
         lost: 0,
         run,
     };
-    is_read(&rt, &record, &shown, &[0x0005_0006, 0x0007_0008]);
+    is_read(&rt, &words, &shown, &[0x0005_0006, 0x0007_0008]);
 }
 
 #[test]
@@ -560,4 +560,10 @@ fn a_record_that_is_cut_is_none(rt: HostRuntime) {
     is_none_of(&rt, &RAW, 47);
     is_none_of(&rt, &RAW, 7);
     is_none_of(&rt, &RAW, 0);
+}
+
+#[test]
+fn one_record_stands_first(rt: HostRuntime) {
+    one_to_one();
+    is_read(&rt, &END, &Shown::End { counts: [0; 7] }, &[]);
 }
