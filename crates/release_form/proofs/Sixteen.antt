@@ -8,7 +8,7 @@ use Rattle.std.proofs.lemmas.List.Concat.{flat_map-append}
 use borrow.Rule.Slice.PartMut.{put_mid}
 use Rattle.std.proofs.Math.Nat.{pow-le-pow_right}
 use Rattle.sample_unpack.specs.Bits.{bits_of_bytes}
-use Rattle.sample_unpack.specs.Samples.{LieWithin, SampleFits, bits_of_sample, bits_of_samples, samples_from, sample_at, words_for}
+use Rattle.sample_unpack.specs.Samples.{LieWithin, SampleFits, bits_of_sample, bits_of_samples, samples_from, sample_at}
 use Rattle.sample_unpack.specs.declared.sample.Sample.{Sample}
 use Rattle.sample_unpack.proofs.Bits.{bits_of_bytes-append, bits_of_bytes-nil, take-bits_of_bytes, drop-bits_of_bytes}
 use Rattle.sample_unpack.proofs.Samples.{samples_from-add}
@@ -42,9 +42,6 @@ copied first number payload h =
     ∙ ap (λ i. take (8 * (4 * number)) (drop i (bits_of_bytes payload))) n
     ∙ ap (λ i. take i (drop (2 * 16 * first) (bits_of_bytes payload))) m
     ∙ sym (bits_kept 16 payload first number h)
-
-pub words_of_sixteen : (number : ℕ) → words_for 16 number ≡ number
-words_of_sixteen number = omega arith
 
 -- samples, and then more
 pub more_samples : (w first done count k : ℕ) (payload into part : List ℕ)

@@ -28,14 +28,15 @@ next_words position words rest old new room e =
     ∙ ap (λ xs. xs ++ words) (sym (words_of-take position old))
 
 -- the words of one more count
-pub next_count : (body index high low : ℕ) (counts old new : List ℕ) → index < length counts → high ≡ high_word (get_or counts index 0) → low ≡ low_word (get_or counts index 0)
-    → words_of (take (4 * (2 + 2 * index)) old) ≡ 7 ∷ body ∷ count_words (take index counts)
+pub next_count : (front : List ℕ) (index high low : ℕ) (counts old new : List ℕ) → index < length counts → high ≡ high_word (get_or counts index 0) → low ≡ low_word (get_or counts index 0)
+    → words_of (take (4 * (2 + 2 * index)) old) ≡ front ++ count_words (take index counts)
     → words_of (take (4 * (2 + 2 * index + 2)) new) ≡ words_of (take (4 * (2 + 2 * index)) old) ++ (high ∷ low ∷ [])
-    → words_of (take (4 * (2 + 2 * (index + 1))) new) ≡ 7 ∷ body ∷ count_words (take (index + 1) counts)
-next_count body index high low counts old new there h l before now =
+    → words_of (take (4 * (2 + 2 * (index + 1))) new) ≡ front ++ count_words (take (index + 1) counts)
+next_count front index high low counts old new there h l before now =
     let same : 4 * (2 + 2 * (index + 1)) ≡ 4 * (2 + 2 * index + 2) = omega arith in
     let words = λ (count : ℕ). high_word count ∷ low_word count ∷ [] in
     let count = get_or counts index 0 in
     ap (λ n. words_of (take n new)) same ∙ now
     ∙ ap₂ (λ (xs ys : List ℕ). xs ++ ys) before (ap₂ (λ (x y : ℕ). x ∷ y ∷ []) h l)
-    ∙ ap (λ xs. 7 ∷ body ∷ xs) (sym (ap (flat_map words) (take_more counts index 0 there) ∙ flat_map-append words (take index counts) (count ∷ [])))
+    ∙ append_assoc front (flat_map words (take index counts)) (words count)
+    ∙ ap (λ xs. front ++ xs) (sym (ap (flat_map words) (take_more counts index 0 there) ∙ flat_map-append words (take index counts) (count ∷ [])))

@@ -14,7 +14,7 @@ use Rattle.difi_context.specs.declared.context.ContextRec.{ContextRec}
 use Rattle.release_form.specs.Rules.{AreFields}
 use Rattle.release_form.specs.Positions.{word}
 use Rattle.release_form.specs.Reasons.{number_of, detail_of}
-use Rattle.release_form.specs.Layout.{front_of, kind_of_run, IsLateStampAt}
+use Rattle.release_form.specs.Layout.{front_of, front_of_run, kind_of_run, IsLateStampAt}
 use Rattle.release_form.specs.Release.{IsRelease, StandsFirst}
 use Rattle.release_form.specs.Steps.{IsFirstRecord, IsReadAs, IsNoRecord}
 use Rattle.release_form.specs.declared.shown.Shown.{Shown}
@@ -142,13 +142,13 @@ one_first a b bytes p q =
     let same : length a ≡ length b = omega (arith, wa, wb, p.length_is, q.length_is) in
     p.front ∙ ap (λ n. take n bytes) same ∙ sym q.front
 
-front_run_least : (run : Run) (stream port lost : ℕ) → 12 ≤ front_of (ARun stream port lost run)
-front_run_least (Bound stamp first number moment fields bits) stream port lost = omega arith
-front_run_least (Uncertain reason stamp first number moment bits) stream port lost = omega arith
-front_run_least (Raw reason stamp pad) stream port lost = omega arith
+pub run_front_least : (run : Run) → 44 ≤ front_of_run run
+run_front_least (Bound stamp first number moment fields bits) = omega arith
+run_front_least (Uncertain reason stamp first number moment bits) = omega arith
+run_front_least (Raw reason stamp pad) = omega arith
 
 pub front_least : (shown : Shown) → 12 ≤ front_of shown
-front_least (ARun stream port lost run) = front_run_least run stream port lost
+front_least (ARun stream port lost run) = omega (arith, run_front_least run)
 front_least (Ack port) = omega arith
 front_least (Refused frame port reason detail stamp) = omega arith
 front_least (Version port) = omega arith

@@ -1,6 +1,6 @@
 ghost use Rattle.std.specs.Prelude.{◌≡◌, ℕ, ◌+◌, ◌*◌, ◌/◌, ◌%◌, ◌<◌, ◌≤◌, ◌^◌, ◌∷◌, [], ◌++◌, IfSome, length, take, drop};
 ghost use Rattle.vrt_words.specs.Words.{words_of};
-ghost use Rattle.release_form.specs.Layout.{front_of, front_of_run, kind_of_run};
+ghost use Rattle.release_form.specs.Layout.{front_of, front_of_run, kind_of};
 ghost use Rattle.release_form.specs.Front.{high_word, low_word, front_words, run_words, stamp_words, moment_words, late_words, count_words, IsTyped, IsTypedRun, IsStampTyped};
 
 use crate::reasons::numbers_of;
@@ -17,36 +17,53 @@ pub(crate) fn put_front(shown: &Shown, body: u32, into: &mut [u8])
     ensures behind { drop (front_of shown.now) into.new ≡ drop (front_of shown.now) into.old }
     ensures typed { IsTyped shown.now }
 {
+    put_next(into, 0, &[kind(shown), body]);
     match shown {
         Shown::Run {
             stream,
             port,
             lost,
             run,
-        } => put_run(*stream, *port, *lost, run, body, into),
-        Shown::Ack { port } => put_next(into, 0, &[4, body, u32::from(*port)]),
+        } => {
+            put_next(into, 2, &[*stream, u32::from(*port), u32::from(*lost)]);
+            put_run(run, into);
+        }
         Shown::Refused {
             frame,
             port,
             reason,
             detail,
             stamp,
-        } => put_refused(*frame, *port, *reason, *detail, stamp, body, into),
-        Shown::Version { port } => put_next(into, 0, &[6, body, u32::from(*port)]),
-        Shown::End { counts } => put_end(counts, body, into),
+        } => put_refused(*frame, *port, *reason, *detail, stamp, into),
+        Shown::Ack { port } | Shown::Version { port } => put_next(into, 2, &[u32::from(*port)]),
+        Shown::End { counts } => put_counts(counts, into),
     }
 }
 
-// The front of a run.
-fn put_run(stream: u32, port: u16, lost: u8, run: &Run, body: u32, into: &mut [u8])
+// The kind of a record.
+fn kind(shown: &Shown) -> u32
+    ensures { result ≡ kind_of shown.now }
+{
+    match shown {
+        Shown::Run { run, .. } => match run {
+            Run::Bound { .. } => 1,
+            Run::Uncertain { .. } => 2,
+            Run::Raw { .. } => 3,
+        },
+        Shown::Ack { .. } => 4,
+        Shown::Refused { .. } => 5,
+        Shown::Version { .. } => 6,
+        Shown::End { .. } => 7,
+    }
+}
+
+// The positions of a run behind its stream, its port and the number lost.
+fn put_run(run: &Run, into: &mut [u8])
     requires { front_of_run run.now ≤ length into.old }
-    ensures words { words_of (take (front_of_run run.now) into.new)
-        ≡ kind_of_run run.now ∷ body ∷ stream ∷ port ∷ lost ∷ run_words run.now }
+    ensures words { words_of (take (front_of_run run.now) into.new) ≡ words_of (take 20 into.old) ++ run_words run.now }
     ensures behind { drop (front_of_run run.now) into.new ≡ drop (front_of_run run.now) into.old }
     ensures typed { IsTypedRun run.now }
 {
-    let port = u32::from(port);
-    let lost = u32::from(lost);
     match run {
         Run::Bound {
             stamp,
@@ -56,7 +73,6 @@ fn put_run(stream: u32, port: u16, lost: u8, run: &Run, body: u32, into: &mut [u
             fields,
             ..
         } => {
-            put_next(into, 0, &[1, body, stream, port, lost]);
             put_span(into, 5, stamp, [*first, *number], at);
             put_next(into, 14, fields);
         }
@@ -68,12 +84,10 @@ fn put_run(stream: u32, port: u16, lost: u8, run: &Run, body: u32, into: &mut [u
             at,
             ..
         } => {
-            put_next(into, 0, &[2, body, stream, port, lost]);
             put_next(into, 5, &numbers_of(*reason));
             put_span(into, 7, stamp, [*first, *number], at);
         }
         Run::Raw { reason, stamp, pad } => {
-            put_next(into, 0, &[3, body, stream, port, lost]);
             put_next(into, 5, &numbers_of(*reason));
             put_next(into, 7, &words_of_stamp(stamp));
             put_next(into, 10, &[u32::from(*pad)]);
@@ -94,46 +108,45 @@ fn put_span(into: &mut [u8], position: usize, stamp: &Stamp, samples: [u32; 2], 
     put_next(into, position + 5, &words_of_moment(at));
 }
 
-// The front of a refused frame, which is all of its record.
+// The positions of a refused frame behind the length. Where there is no stamp, its positions are 0.
 fn put_refused(
     frame: u64,
     port: u16,
     reason: u8,
     detail: u32,
     stamp: &Option<Stamp>,
-    body: u32,
     into: &mut [u8],
 )
     requires { 40 ≤ length into.old }
-    ensures words { words_of (take 40 into.new)
-        ≡ 5 ∷ body ∷ high_word frame ∷ low_word frame ∷ port ∷ reason ∷ detail ∷ late_words stamp.now }
+    ensures words { words_of (take 40 into.new) ≡ words_of (take 8 into.old)
+        ++ (high_word frame ∷ low_word frame ∷ port ∷ reason ∷ detail ∷ late_words stamp.now) }
     ensures behind { drop 40 into.new ≡ drop 40 into.old }
     ensures typed { IfSome stamp.now IsStampTyped }
 {
-    let front = [
-        5,
-        body,
-        high(frame),
-        low(frame),
-        u32::from(port),
-        u32::from(reason),
-        detail,
-    ];
-    put_next(into, 0, &front);
+    put_next(
+        into,
+        2,
+        &[
+            high(frame),
+            low(frame),
+            u32::from(port),
+            u32::from(reason),
+            detail,
+        ],
+    );
     match stamp {
         Some(stamp) => put_next(into, 7, &words_of_stamp(stamp)),
         None => put_next(into, 7, &[0, 0, 0]),
     }
 }
 
-// The front of the end, which is all of its record.
-fn put_end(counts: &[u64; 7], body: u32, into: &mut [u8])
+// Seven numbers.
+fn put_counts(counts: &[u64; 7], into: &mut [u8])
     requires { 64 ≤ length into.old }
-    ensures words { words_of (take 64 into.new) ≡ 7 ∷ body ∷ count_words counts.now }
+    ensures words { words_of (take 64 into.new) ≡ words_of (take 8 into.old) ++ count_words counts.now }
     ensures behind { drop 64 into.new ≡ drop 64 into.old }
     ensures typed { length counts.now ≡ 7 }
 {
-    put_next(into, 0, &[7, body]);
     for (index, count) in counts.iter().enumerate() {
         put_next(into, 2 + 2 * index, &[high(*count), low(*count)]);
     }
