@@ -1,6 +1,4 @@
-ghost use Rattle.std.specs.Prelude.{◌≡◌, ℕ, ◌+◌, ◌≤◌, List, length, take, IfSome, IfNone, IsSomeAnd};
-ghost use Rattle.release_form.specs.Positions.{word};
-ghost use Rattle.release_form.specs.Layout.{front_of};
+ghost use Rattle.std.specs.Prelude.{◌≡◌, ℕ, ◌≤◌, List, length, take, IfSome, IfNone, IsSomeAnd};
 ghost use Rattle.release_form.specs.Release.{StandsFirst, IsRecordOf, IsPartOf, as_read};
 ghost use Rattle.release_form.specs.Steps.{IsFirstRecord};
 ghost use Rattle.release_form.specs.declared.shown.Shown.{Shown};

@@ -1,7 +1,6 @@
-ghost use Rattle.std.specs.Prelude.{◌≡◌, ℕ, ◌+◌, ◌-◌, ◌*◌, ◌/◌, ◌%◌, ◌<◌, ◌≤◌, ◌^◌, List, [], ◌∷◌, ◌++◌, length, take, drop};
-ghost use Rattle.vrt_words.specs.Words.{words_of, AreBytes};
+ghost use Rattle.std.specs.Prelude.{◌≡◌, ℕ, ◌+◌, ◌<◌, ◌≤◌, ◌^◌, List, length, take, drop};
+ghost use Rattle.vrt_words.specs.Words.{AreBytes};
 ghost use Rattle.release_form.specs.Rules.{Obeys, ObeysRun};
-ghost use Rattle.release_form.specs.Layout.{front_of, kind_of};
 ghost use Rattle.release_form.specs.Sizes.{GoesWith, GoesWithRun, size_with, part_size, run_part_size};
 ghost use Rattle.release_form.specs.Release.{IsRecordOf, IsPartOf, IsPartOfRun};
 

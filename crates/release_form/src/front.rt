@@ -1,4 +1,4 @@
-ghost use Rattle.std.specs.Prelude.{◌≡◌, ℕ, ◌+◌, ◌*◌, ◌/◌, ◌%◌, ◌<◌, ◌≤◌, ◌^◌, ◌∷◌, [], ◌++◌, IfSome, length, take, drop};
+ghost use Rattle.std.specs.Prelude.{◌≡◌, ℕ, ◌+◌, ◌*◌, ◌≤◌, ◌∷◌, ◌++◌, IfSome, length, take, drop};
 ghost use Rattle.vrt_words.specs.Words.{words_of};
 ghost use Rattle.release_form.specs.Layout.{front_of, front_of_run, kind_of};
 ghost use Rattle.release_form.specs.Front.{high_word, low_word, front_words, run_words, stamp_words, moment_words, late_words, count_words, IsTyped, IsTypedRun, IsStampTyped};

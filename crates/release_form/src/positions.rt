@@ -1,4 +1,4 @@
-ghost use Rattle.std.specs.Prelude.{◌≡◌, ◌+◌, ◌*◌, ◌<◌, ◌≤◌, ◌^◌, length, IfSome, IfNone};
+ghost use Rattle.std.specs.Prelude.{◌≡◌, ◌+◌, ◌*◌, ◌≤◌, ◌^◌, length, IfSome, IfNone};
 ghost use Rattle.release_form.specs.Positions.{word, double, quadruple};
 ghost use Rattle.release_form.specs.Layout.{IsPortAt, IsStampAt};
 

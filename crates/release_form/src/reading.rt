@@ -1,11 +1,7 @@
-ghost use Rattle.std.specs.Prelude.{◌≡◌, ◌≢◌, ℕ, ◌+◌, ◌*◌, ◌<◌, ◌≤◌, ◌^◌, List, length, take, drop, ◌↔◌, IsTrue, IfSome, IfNone};
+ghost use Rattle.std.specs.Prelude.{◌≡◌, ◌≢◌, ℕ, ◌+◌, ◌*◌, ◌≤◌, length, ◌↔◌, IsTrue, IfSome, IfNone};
 ghost use Rattle.release_form.specs.Positions.{word};
 ghost use Rattle.release_form.specs.Reasons.{number_of};
-ghost use Rattle.release_form.specs.Rules.{AreIndices};
-ghost use Rattle.release_form.specs.Layout.{IsPortAt};
-ghost use Rattle.release_form.specs.Release.{IsRelease};
-ghost use Rattle.release_form.specs.Steps.{IsFirstRecord, IsReadAs, IsNoRecord, IsSource, IsSpan};
-ghost use Rattle.release_form.specs.declared.shown.Shown.{Shown};
+ghost use Rattle.release_form.specs.Steps.{IsReadAs, IsNoRecord, IsSource, IsSpan};
 
 use crate::fields::{are_fields, is_captured};
 use crate::positions::{double_in, port_in, quadruple_in, stamp_in, word_in};

@@ -1,4 +1,4 @@
-ghost use Rattle.std.specs.Prelude.{◌≡◌, ◌≤◌, ◌∷◌, [], IfSome, IfNone};
+ghost use Rattle.std.specs.Prelude.{◌≡◌, ◌∷◌, [], IfSome, IfNone};
 ghost use Rattle.sample_binder.specs.declared.reason.Reason.{Reason};
 ghost use Rattle.release_form.specs.Reasons.{IsReason, number_of, detail_of};
 

@@ -1,5 +1,4 @@
 ghost use Rattle.std.specs.Prelude.{◌≡◌, ◌+◌, ◌*◌, ◌≤◌, ◌^◌, length, take, drop};
-ghost use Rattle.sample_unpack.specs.Samples.{LieWithin};
 ghost use Rattle.release_form.specs.Rules.{AreIndices};
 ghost use Rattle.release_form.specs.Sizes.{HoldsRun};
 ghost use Rattle.release_form.specs.Release.{AreSamples};

@@ -1,4 +1,4 @@
-ghost use Rattle.std.specs.Prelude.{◌≡◌, ◌+◌, ◌*◌, ◌<◌, ◌≤◌, ◌^◌, length};
+ghost use Rattle.std.specs.Prelude.{◌≡◌, ◌*◌, ◌<◌, ◌≤◌, ◌^◌, length};
 ghost use Rattle.vrt_time.specs.Time.{stamp_of};
 ghost use Rattle.release_form.specs.Rules.{Obeys};
 ghost use Rattle.release_form.specs.Sizes.{GoesWith, size_with};
