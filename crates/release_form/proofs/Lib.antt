@@ -1,0 +1,5 @@
+pub mod Told
+pub mod Sixteen
+pub mod Written
+pub mod Laid
+pub mod Spelling

@@ -1,0 +1,9 @@
+pub mod Positions
+pub mod Reasons
+pub mod Rules
+pub mod Layout
+pub mod Sizes
+pub mod Release
+pub mod Steps
+pub mod Front
+pub mod ReleaseLaws

@@ -1,0 +1,195 @@
+ghost use Rattle.std.specs.Prelude.{◌≡◌, ℕ, ◌+◌, ◌*◌, ◌≤◌, ◌∷◌, ◌++◌, IfSome, length, take, drop};
+ghost use Rattle.vrt_words.specs.Words.{words_of};
+ghost use Rattle.release_form.specs.Layout.{front_of, front_of_run, kind_of};
+ghost use Rattle.release_form.specs.Front.{high_word, low_word, front_words, run_words, stamp_words, moment_words, late_words, count_words, IsTyped, IsTypedRun, IsStampTyped};
+
+use crate::reasons::numbers_of;
+use crate::shown::Shown;
+use sample_binder::Run;
+use vrt_time::{Moment, Stamp};
+use vrt_words::put_words;
+
+/// Writes the words in front of the variable part: the kind, the length of what follows, and the fixed
+/// positions. All other bytes stay.
+pub(crate) fn put_front(shown: &Shown, body: u32, into: &mut [u8])
+    requires { front_of shown.now ≤ length into.old }
+    ensures words { words_of (take (front_of shown.now) into.new) ≡ front_words shown.now body }
+    ensures behind { drop (front_of shown.now) into.new ≡ drop (front_of shown.now) into.old }
+    ensures typed { IsTyped shown.now }
+{
+    put_next(into, 0, &[kind(shown), body]);
+    match shown {
+        Shown::Run {
+            stream,
+            port,
+            lost,
+            run,
+        } => {
+            put_next(into, 2, &[*stream, u32::from(*port), u32::from(*lost)]);
+            put_run(run, into);
+        }
+        Shown::Refused {
+            frame,
+            port,
+            reason,
+            detail,
+            stamp,
+        } => put_refused(*frame, *port, *reason, *detail, stamp, into),
+        Shown::Ack { port } | Shown::Version { port } => put_next(into, 2, &[u32::from(*port)]),
+        Shown::End { counts } => put_counts(counts, into),
+    }
+}
+
+// The kind of a record.
+fn kind(shown: &Shown) -> u32
+    ensures { result ≡ kind_of shown.now }
+{
+    match shown {
+        Shown::Run { run, .. } => match run {
+            Run::Bound { .. } => 1,
+            Run::Uncertain { .. } => 2,
+            Run::Raw { .. } => 3,
+        },
+        Shown::Ack { .. } => 4,
+        Shown::Refused { .. } => 5,
+        Shown::Version { .. } => 6,
+        Shown::End { .. } => 7,
+    }
+}
+
+// The positions of a run behind its stream, its port and the number lost.
+fn put_run(run: &Run, into: &mut [u8])
+    requires { front_of_run run.now ≤ length into.old }
+    ensures words { words_of (take (front_of_run run.now) into.new) ≡ words_of (take 20 into.old) ++ run_words run.now }
+    ensures behind { drop (front_of_run run.now) into.new ≡ drop (front_of_run run.now) into.old }
+    ensures typed { IsTypedRun run.now }
+{
+    match run {
+        Run::Bound {
+            stamp,
+            first,
+            number,
+            at,
+            fields,
+            ..
+        } => {
+            put_span(into, 5, stamp, [*first, *number], at);
+            put_next(into, 14, fields);
+        }
+        Run::Uncertain {
+            reason,
+            stamp,
+            first,
+            number,
+            at,
+            ..
+        } => {
+            put_next(into, 5, &numbers_of(*reason));
+            put_span(into, 7, stamp, [*first, *number], at);
+        }
+        Run::Raw { reason, stamp, pad } => {
+            put_next(into, 5, &numbers_of(*reason));
+            put_next(into, 7, &words_of_stamp(stamp));
+            put_next(into, 10, &[u32::from(*pad)]);
+        }
+    }
+}
+
+// The packet's stamp, the first sample and the number of samples, and the capture moment.
+fn put_span(into: &mut [u8], position: usize, stamp: &Stamp, samples: [u32; 2], at: &Moment)
+    requires { 4 * (position + 9) ≤ length into.old }
+    ensures words { words_of (take (4 * (position + 9)) into.new)
+        ≡ words_of (take (4 * position) into.old) ++ (stamp_words stamp.now ++ (samples ++ moment_words at.now)) }
+    ensures behind { (n : ℕ) → 4 * (position + 9) ≤ n → drop n into.new ≡ drop n into.old }
+    ensures typed { IsStampTyped stamp.now }
+{
+    put_next(into, position, &words_of_stamp(stamp));
+    put_next(into, position + 3, &samples);
+    put_next(into, position + 5, &words_of_moment(at));
+}
+
+// The positions of a refused frame behind the length. Where there is no stamp, its positions are 0.
+fn put_refused(
+    frame: u64,
+    port: u16,
+    reason: u8,
+    detail: u32,
+    stamp: &Option<Stamp>,
+    into: &mut [u8],
+)
+    requires { 40 ≤ length into.old }
+    ensures words { words_of (take 40 into.new) ≡ words_of (take 8 into.old)
+        ++ (high_word frame ∷ low_word frame ∷ port ∷ reason ∷ detail ∷ late_words stamp.now) }
+    ensures behind { drop 40 into.new ≡ drop 40 into.old }
+    ensures typed { IfSome stamp.now IsStampTyped }
+{
+    put_next(
+        into,
+        2,
+        &[
+            high(frame),
+            low(frame),
+            u32::from(port),
+            u32::from(reason),
+            detail,
+        ],
+    );
+    match stamp {
+        Some(stamp) => put_next(into, 7, &words_of_stamp(stamp)),
+        None => put_next(into, 7, &[0, 0, 0]),
+    }
+}
+
+// Seven numbers.
+fn put_counts(counts: &[u64; 7], into: &mut [u8])
+    requires { 64 ≤ length into.old }
+    ensures words { words_of (take 64 into.new) ≡ words_of (take 8 into.old) ++ count_words counts.now }
+    ensures behind { drop 64 into.new ≡ drop 64 into.old }
+    ensures typed { length counts.now ≡ 7 }
+{
+    for (index, count) in counts.iter().enumerate() {
+        put_next(into, 2 + 2 * index, &[high(*count), low(*count)]);
+    }
+}
+
+// Writes words behind those that stand in front of a position. All bytes behind them stay.
+fn put_next(into: &mut [u8], position: usize, words: &[u32])
+    requires { 4 * (position + length words.now) ≤ length into.old }
+    ensures words { words_of (take (4 * (position + length words.now)) into.new)
+        ≡ words_of (take (4 * position) into.old) ++ words.now }
+    ensures behind { (n : ℕ) → 4 * (position + length words.now) ≤ n → drop n into.new ≡ drop n into.old }
+{
+    put_words(into, position, words);
+}
+
+// The seconds, and the picoseconds in two words.
+fn words_of_stamp(stamp: &Stamp) -> [u32; 3]
+    ensures words { result ≡ stamp_words stamp.now }
+    ensures typed { IsStampTyped stamp.now }
+{
+    let picos = stamp.picos();
+    [stamp.seconds(), high(picos), low(picos)]
+}
+
+// Four words.
+fn words_of_moment(moment: &Moment) -> [u32; 4]
+    ensures { result ≡ moment_words moment.now }
+{
+    let picos = moment.picos();
+    let upper = (picos >> 64) as u64;
+    let lower = (picos % (1 << 64)) as u64;
+    [high(upper), low(upper), high(lower), low(lower)]
+}
+
+// The high word of a number, and the low one.
+fn high(number: u64) -> u32
+    ensures { result ≡ high_word number }
+{
+    (number >> 32) as u32
+}
+
+fn low(number: u64) -> u32
+    ensures { result ≡ low_word number }
+{
+    (number % (1 << 32)) as u32
+}
