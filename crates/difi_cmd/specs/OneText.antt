@@ -94,7 +94,7 @@ one_frames last (f ∷ fs) (g ∷ gs) body rest other left e p q r s =
     let first : f ≡ g = p.1.1.1.0.told ∙ ap frame_in front ∙ sym q.1.1.1.0.told in
     let stamp : f.stamp ≡ g.stamp = ap (λ (x : Frame). x.stamp) first in
     let more = one_frames f.stamp fs gs p.1.0 rest q.1.0 left behind p.1.1.1.1 (subst (λ t. AreFrames t gs q.1.0) (sym stamp) q.1.1.1.1)
-        r (subst (λ t. IsBehind (last_stamp t gs) left) (sym stamp) s) in
+    r (subst (λ t. IsBehind (last_stamp t gs) left) (sym stamp) s) in
     ap (λ x. x ∷ fs) first ∙ ap (λ l. g ∷ l) more
 
 -- ---- the text

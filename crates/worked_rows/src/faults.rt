@@ -1,6 +1,8 @@
 //! Records that are none, and the offset at which each is told to be wrong.
 
-use crate::records::{BASE, datagram, header, push_frame, push_words, run, run_line, second_header};
+use crate::records::{
+    BASE, datagram, header, push_frame, push_words, run, run_line, second_header,
+};
 use difi_cmd::Status;
 use std::alloc::Global;
 use std::test::Fail;
@@ -72,7 +74,11 @@ fn each_field_of_the_header_is_judged_at_its_offset(rt: HostRuntime) -> Result<(
         (147, &[1], 140),
         (155, &[1], 148),
         (163, &[1], 156),
-        (136, &[0, 0, 0, 1, 0, 0, 0, 0, 0, 0, 0, 2, 0, 0, 0, 0, 0, 0, 0, 1], 148),
+        (
+            136,
+            &[0, 0, 0, 1, 0, 0, 0, 0, 0, 0, 0, 2, 0, 0, 0, 0, 0, 0, 0, 1],
+            148,
+        ),
         (339, &[1], 338),
     ];
     for (offset, bytes, told) in changes {
@@ -119,10 +125,26 @@ fn picoseconds_rise_within_a_second_alone(rt: HostRuntime) -> Result<(), Fail> {
 fn an_early_end_is_told_with_the_number_of_bytes(rt: HostRuntime) -> Result<(), Fail> {
     let record = one_frame(rt.alloc())?;
     for length in [0, 7, 100, 331, 339] {
-        assert!(rt; is_wrong_at(&rt, rt.alloc(), &record.as_slice()[..length], length as u64, "")?);
+        assert!(rt;
+            is_wrong_at(
+                &rt,
+                rt.alloc(),
+                &record.as_slice()[..length],
+                length as u64,
+                ""
+            )?
+        );
     }
     for length in [341, 359, 467] {
-        assert!(rt; is_wrong_at(&rt, rt.alloc(), &record.as_slice()[..length], length as u64, "")?);
+        assert!(rt;
+            is_wrong_at(
+                &rt,
+                rt.alloc(),
+                &record.as_slice()[..length],
+                length as u64,
+                ""
+            )?
+        );
     }
     assert!(rt; is_wrong_at(&rt, rt.alloc(), b"DIFIREC2", 8, "")?);
     assert!(rt; is_wrong_at(&rt, rt.alloc(), b"DIFIREC3", 0, "")?);
@@ -171,7 +193,10 @@ fn so_many_bytes_are_judged_and_one_more_is_too_many(rt: HostRuntime) -> Result<
 fn a_wrong_field_comes_before_too_many_bytes(rt: HostRuntime) -> Result<(), Fail> {
     let record = with(rt.alloc(), one_frame(rt.alloc())?.as_slice(), 15, &[4])?;
     for (words, status) in [
-        (["check", "--max-bytes=16"], Status::BadRecord { offset: 12 }),
+        (
+            ["check", "--max-bytes=16"],
+            Status::BadRecord { offset: 12 },
+        ),
         (["check", "--max-bytes=15"], Status::TooLong),
     ] {
         let outcome = run_line(&rt, rt.alloc(), &words, record.as_slice(), 4096, &[], &[])?;

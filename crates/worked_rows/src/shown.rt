@@ -80,7 +80,15 @@ fn a_context_is_shown_field_by_field(rt: HostRuntime) -> Result<(), Fail> {
 fn a_context_is_shown_however_reads_and_writes_are_cut(rt: HostRuntime) -> Result<(), Fail> {
     let record = record_of(rt.alloc(), &BASE)?;
     for piece in [1, 7] {
-        let outcome = run_line(&rt, rt.alloc(), &["show"], record.as_slice(), piece, &[], &[])?;
+        let outcome = run_line(
+            &rt,
+            rt.alloc(),
+            &["show"],
+            record.as_slice(),
+            piece,
+            &[],
+            &[],
+        )?;
         assert!(rt; outcome.status == Status::Done);
         assert_eq!(rt; outcome.text.as_slice(), CONTEXT.as_bytes());
     }
@@ -90,7 +98,15 @@ fn a_context_is_shown_however_reads_and_writes_are_cut(rt: HostRuntime) -> Resul
 #[test]
 fn a_write_of_show_that_fails_is_told(rt: HostRuntime) -> Result<(), Fail> {
     let record = record_of(rt.alloc(), &BASE)?;
-    let outcome = run_line(&rt, rt.alloc(), &["show"], record.as_slice(), 100, &[], &[3])?;
+    let outcome = run_line(
+        &rt,
+        rt.alloc(),
+        &["show"],
+        record.as_slice(),
+        100,
+        &[],
+        &[3],
+    )?;
     assert!(rt; outcome.status == Status::WriteFault);
     assert!(rt; outcome.text.len() == 200);
     assert!(rt; CONTEXT.as_bytes().starts_with(outcome.text.as_slice()));
