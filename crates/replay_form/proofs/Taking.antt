@@ -1,11 +1,11 @@
 -- How far a header has come, by its bytes and by its fields.
-use Rattle.std.proofs.Common.{◌≡◌, ℕ, zero, suc, ◌+◌, ◌*◌, ◌<◌, ◌≤◌, inl, inr, Bool, true, false, List, ◌++◌, length, take, drop, refl, sym, ap, ◌∙◌, subst, length-append, append_assoc, take-append-drop, take_all, take-add, append-nil, arith}
+use Rattle.std.proofs.Common.{◌≡◌, ℕ, zero, suc, ◌+◌, ◌*◌, ◌<◌, ◌≤◌, inl, inr, Bool, true, false, List, ◌++◌, length, take, drop, sym, ap, ◌∙◌, subst, append_assoc, take-append-drop, take_all, take-add, append-nil, arith}
 use Rattle.std.proofs.lemmas.Bool.{cases_order}
 use Rattle.std.proofs.lemmas.List.{length-drop}
 use Rattle.replay_form.specs.Numbers.{number_at}
 use Rattle.replay_form.specs.NumberLaws.{number_at-append}
 use Rattle.replay_form.specs.HeadFields.{AreRight, IsHeadOpen, IsJudged, IsWholeHead, IsHeadWrongAt, is_second, field_count, head_size, route_size, route_fields, most_routes}
-use Rattle.replay_form.specs.HeadLaws.{HeadRanges, head_ranges, field_ends, last_ends}
+use Rattle.replay_form.specs.HeadLaws.{head_ranges, field_ends, last_ends}
 use Rattle.replay_form.specs.PrefixLaws.{is_second-append, right-append, among-append, wrong-append}
 use Rattle.replay_form.specs.Taking.{IsHeadBegun, IsPartTaken, IsHeadWhole}
 

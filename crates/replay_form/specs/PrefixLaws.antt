@@ -1,12 +1,11 @@
 -- Bytes that come behind change nothing of what stands in front of them.
-use Rattle.std.proofs.Common.{◌≡◌, ℕ, zero, suc, ◌+◌, ◌*◌, ◌-◌, ◌/◌, ◌%◌, ◌<◌, ◌≤◌, ◌==◌, ◌&&◌, ◌⊎◌, inl, inr, Bool, true, false, nat_le, List, ◌++◌, length, take, refl, sym, ap, ◌∙◌, subst, length-append, arith}
+use Rattle.std.proofs.Common.{◌≡◌, ℕ, zero, suc, ◌+◌, ◌<◌, ◌≤◌, inl, inr, Bool, true, nat_le, List, ◌++◌, length, take, refl, sym, ap, ◌∙◌, subst, length-append, arith}
 use Rattle.std.proofs.lemmas.Grind.{common_steps}
 use Rattle.std.proofs.lemmas.Bool.{cases_order}
 use Rattle.std.proofs.lemmas.List.{take-append-le}
 use Rattle.vrt_time.specs.Time.{TimeStamp}
-use Rattle.replay_form.specs.Numbers.{number_at}
 use Rattle.replay_form.specs.NumberLaws.{number_at-append}
-use Rattle.replay_form.specs.HeadFields.{IsRight, IsRightIn, IsGood, AreRight, IsHeadWrongAt, IsFirstWrong, is_second, second_magic, field_at, field_count, end_of, offset_of, route_fields}
+use Rattle.replay_form.specs.HeadFields.{IsRight, IsRightIn, IsGood, AreRight, IsHeadWrongAt, IsFirstWrong, is_second, field_at, field_count, end_of, offset_of}
 use Rattle.replay_form.specs.FrameFields.{IsFrameRightIn, IsFrameGood, AreFrameRight, IsFrameWrongAt, frame_field, frame_end}
 use Rattle.replay_form.specs.declared.head_field.HeadField.{HeadField}
 use Rattle.replay_form.specs.declared.frame_field.FrameField.{FrameField}
