@@ -1,9 +1,8 @@
 -- One field after another.
-use Rattle.std.proofs.Common.{◌≡◌, ℕ, zero, suc, ◌+◌, ◌<◌, ◌≤◌, Bool, List, length, take, subst, sym, ap, ◌∙◌, below_more, arith}
+use Rattle.std.proofs.Common.{◌≡◌, ℕ, ◌+◌, ◌≤◌, Bool, List, length, take, subst, below_more, arith}
 use Rattle.std.proofs.lemmas.List.{length-take-le}
-use Rattle.vrt_time.specs.Time.{TimeStamp}
 use Rattle.replay_form.specs.NumberLaws.{number_at-take}
-use Rattle.replay_form.specs.FrameFields.{IsFrameRightIn, IsFrameGood, AreFrameRight, frame_field, frame_offset, frame_end}
+use Rattle.replay_form.specs.FrameFields.{frame_end}
 use Rattle.replay_form.specs.declared.frame_field.FrameField.{FrameField}
 use Rattle.replay_form.specs.declared.frame_field.FrameField.TheVariants.{Seconds, Picos, Port, Zero, Length, Datagram}
 use Rattle.replay_form.specs.HeadFields.{IsRightIn, IsGood, AreRight, is_second, field_at, end_of}
@@ -17,24 +16,6 @@ one_more bytes i end second field form same ends there right before =
     record { there = subst (λ e. e ≤ length bytes) ends there; right = subst (λ e. IsRightIn second field (take e bytes)) ends right } in
     let here : IsGood second (field_at second i) bytes = subst (λ f. IsGood second f bytes) same good in
     below_more (λ k. IsGood (is_second bytes) (field_at (is_second bytes) k) bytes) i before (subst (λ s. IsGood s (field_at s i) bytes) form here)
-
--- the same of a frame
-pub one_more_of_frame : (last : TimeStamp) (bytes : List ℕ) (i end : ℕ) (field : FrameField) → field ≡ frame_field i → end ≡ frame_end field bytes → end ≤ length bytes
-    → IsFrameRightIn last field (take end bytes) → AreFrameRight last bytes i → AreFrameRight last bytes (i + 1)
-one_more_of_frame last bytes i end field same ends there right before =
-    let good : IsFrameGood last field bytes =
-    record { there = subst (λ e. e ≤ length bytes) ends there; right = subst (λ e. IsFrameRightIn last field (take e bytes)) ends right } in
-    below_more (λ k. IsFrameGood last (frame_field k) bytes) i before (subst (λ f. IsFrameGood last f bytes) same good)
-
--- a field begins where the one in front of it ends
-pub begins_there : (last : TimeStamp) (bytes : List ℕ) (i : ℕ) → i < 6 → AreFrameRight last bytes i → frame_offset (frame_field i) ≤ length bytes
-begins_there last bytes zero h right = omega arith
-begins_there last bytes (suc zero) h right = (right 0 (omega arith)).there
-begins_there last bytes (suc (suc zero)) h right = (right 1 (omega arith)).there
-begins_there last bytes (suc (suc (suc zero))) h right = (right 2 (omega arith)).there
-begins_there last bytes (suc (suc (suc (suc zero)))) h right = (right 3 (omega arith)).there
-begins_there last bytes (suc (suc (suc (suc (suc zero))))) h right = (right 4 (omega arith)).there
-begins_there last bytes (suc (suc (suc (suc (suc (suc i)))))) h right = absurd (omega arith)
 
 -- the bytes up to a field's end have it whole
 pub ends_there : (field : FrameField) (bytes : List ℕ) (end : ℕ) → end ≡ frame_end field bytes → end ≤ length bytes → frame_end field (take end bytes) ≤ length (take end bytes)

@@ -1,6 +1,6 @@
 -- The bytes of a frame are one list, which is a frame.
 use borrow.Rule.Slice.PartMut.{put_mid}
-use Rattle.std.proofs.Common.{◌≡◌, ℕ, zero, suc, ◌+◌, ◌-◌, ◌*◌, ◌<◌, ◌≤◌, ◌^◌, List, ◌++◌, length, take, drop, refl, sym, ap, ◌∙◌, subst, append_assoc, length-append, take-append-drop, lit<, arith}
+use Rattle.std.proofs.Common.{◌≡◌, ℕ, zero, suc, ◌+◌, ◌-◌, ◌<◌, ◌≤◌, ◌^◌, List, ◌++◌, length, take, drop, refl, sym, ap, ◌∙◌, append_assoc, length-append, take-append-drop, lit<, arith}
 use Rattle.std.proofs.lemmas.List.{take_at, drop_at, drop-drop, length-take-le, length-drop}
 use Rattle.byteorder.specs.Endian.{big_bytes}
 use Rattle.byteorder.specs.Numbers.{length-bytes_high_first}
@@ -8,7 +8,7 @@ use Rattle.vrt_time.specs.Time.{TimeStamp, IsStamp, moment_of}
 use Rattle.vrt_words.specs.Words.{AreBytes}
 use Rattle.replay_form.specs.Numbers.{number_at}
 use Rattle.replay_form.specs.NumberLaws.{number_at-take}
-use Rattle.replay_form.specs.FrameFields.{Frame, IsFrame, IsFrameGood, IsFrameRight, AreFrameRight, IsWholeFrame, frame_in, frame_field, frame_size}
+use Rattle.replay_form.specs.FrameFields.{Frame, IsFrame, AreFrameRight, frame_in}
 use Rattle.replay_form.specs.FrameSpelling.{IsFrameHead, frame_bytes}
 use Rattle.replay_form.proofs.Putting.{number_here, number_next, number_fits, drop_further}
 

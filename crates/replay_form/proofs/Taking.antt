@@ -1,12 +1,11 @@
 -- How far a header has come, by its bytes and by its fields.
-use Rattle.std.proofs.Common.{◌≡◌, ℕ, zero, suc, ◌+◌, ◌*◌, ◌<◌, ◌≤◌, inl, inr, Bool, true, false, List, ◌++◌, length, take, drop, refl, sym, ap, ◌∙◌, subst, length-append, append_assoc, take-append-drop, take_all, take-add, append-nil, arith}
+use Rattle.std.proofs.Common.{◌≡◌, ℕ, zero, suc, ◌+◌, ◌*◌, ◌<◌, ◌≤◌, inl, inr, Bool, true, false, List, ◌++◌, length, take, drop, sym, ap, ◌∙◌, subst, append_assoc, take-append-drop, take_all, take-add, append-nil, arith}
 use Rattle.std.proofs.lemmas.Bool.{cases_order}
 use Rattle.std.proofs.lemmas.List.{length-drop}
 use Rattle.replay_form.specs.Numbers.{number_at}
-use Rattle.replay_form.specs.NumberLaws.{number_at-append}
-use Rattle.replay_form.specs.HeadFields.{AreRight, IsHeadOpen, IsJudged, IsWholeHead, IsHeadWrongAt, is_second, field_count, head_size, route_size, route_fields, most_routes}
-use Rattle.replay_form.specs.HeadLaws.{HeadRanges, head_ranges, field_ends, last_ends}
-use Rattle.replay_form.specs.PrefixLaws.{is_second-append, right-append, among-append, wrong-append}
+use Rattle.replay_form.specs.HeadFields.{AreRight, IsHeadOpen, IsJudged, IsWholeHead, IsHeadWrongAt, is_second, field_count, head_size, route_size, most_routes}
+use Rattle.replay_form.specs.HeadLaws.{head_ranges, field_ends, last_ends}
+use Rattle.replay_form.specs.PrefixLaws.{right-append, among-append, wrong-append, size-append, count-append}
 use Rattle.replay_form.specs.Taking.{IsHeadBegun, IsPartTaken, IsHeadWhole}
 
 -- what is open is short
@@ -55,17 +54,6 @@ pub few_routes : (bytes : List ℕ) (judged : ℕ) → IsJudged bytes judged (fi
 few_routes bytes judged j h =
     let ranges = head_ranges bytes judged (judged_fixed bytes judged j h) j.right in
     size_most (is_second bytes) (number_at 36 4 bytes) ranges.routes.most
-
--- more bytes: the size that is told stays, and what was judged is judged
-pub size-append : (front back : List ℕ) → 40 ≤ length front → head_size (front ++ back) ≡ head_size front
-size-append front back h =
-    ap (λ s. 332 + route_size s * number_at 36 4 (front ++ back)) (is_second-append front back (omega arith))
-    ∙ ap (λ n. 332 + route_size (is_second front) * n) (number_at-append 36 4 front back h)
-
-pub count-append : (front back : List ℕ) → 40 ≤ length front → field_count (front ++ back) ≡ field_count front
-count-append front back h =
-    ap (λ s. 58 + route_fields s * number_at 36 4 (front ++ back)) (is_second-append front back (omega arith))
-    ∙ ap (λ n. 58 + route_fields (is_second front) * n) (number_at-append 36 4 front back h)
 
 -- a part of the piece, and then the rest of it
 pub all_of_piece : (old piece new : List ℕ) (n : ℕ) → new ≡ old ++ take n piece → new ++ drop n piece ≡ old ++ piece

@@ -1,13 +1,12 @@
 -- How far a frame has come, by its bytes and by its fields.
-use Rattle.std.proofs.Common.{◌≡◌, ℕ, zero, suc, ◌+◌, ◌*◌, ◌<◌, ◌≤◌, inl, inr, List, ◌++◌, length, take, drop, refl, sym, ap, ◌∙◌, subst, below_more, length-append, append-nil, arith}
+use Rattle.std.proofs.Common.{◌≡◌, ℕ, zero, suc, ◌+◌, ◌<◌, ◌≤◌, inl, inr, List, ◌++◌, length, take, drop, sym, ap, ◌∙◌, subst, below_more, append-nil, arith}
 use Rattle.std.proofs.lemmas.Bool.{cases_order}
 use Rattle.std.proofs.lemmas.List.{length-drop}
 use Rattle.vrt_time.specs.Time.{TimeStamp}
-use Rattle.replay_form.specs.Numbers.{number_at}
 use Rattle.replay_form.specs.NumberLaws.{number_at-append, number_at-take}
 use Rattle.replay_form.specs.FrameFields.{AreFrameRight, IsFrameGood, IsFrameJudged, IsFramePart, IsFrameWrongAt, IsWholeFrame, frame_field, frame_end, frame_size}
 use Rattle.replay_form.specs.PrefixLaws.{frame_right-append, frame_wrong-append}
-use Rattle.replay_form.specs.Taking.{IsFrameBegun, IsFramePartTaken, IsFrameWhole}
+use Rattle.replay_form.specs.Taking.{IsFrameBegun, IsFrameWhole}
 use Rattle.replay_form.proofs.Taking.{all_of_piece, two_parts}
 
 -- the first five fields end with the first 20 bytes, and the sixth with the frame
@@ -96,13 +95,6 @@ frame_wrong_in_piece last old piece new n offset e wrong =
     subst (λ xs. IsFrameWrongAt last xs offset) (all_of_piece old piece new n e) (frame_wrong-append last new (drop n piece) offset wrong)
 
 -- what the rest of a piece made of the datagram
-pub part_of_datagram : (last : TimeStamp) (old piece rest mid new : List ℕ) (n : ℕ) → mid ≡ old ++ take n piece → rest ≡ drop n piece → IsFramePartTaken last mid rest new
-    → IsFramePartTaken last old piece new
-part_of_datagram last old piece rest mid new n e f taken = record {
-  held = taken.held ∙ ap (λ xs. mid ++ xs) f ∙ all_of_piece old piece mid n e;
-  goes_on = taken.goes_on;
-}
-
 pub whole_of_datagram : (last : TimeStamp) (old piece rest mid new : List ℕ) (n count : ℕ) → n ≤ length piece → mid ≡ old ++ take n piece → rest ≡ drop n piece
     → IsFrameWhole last mid rest new count → IsFrameWhole last old piece new (n + count)
 whole_of_datagram last old piece rest mid new n count h e f taken = record {

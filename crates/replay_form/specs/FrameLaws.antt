@@ -1,10 +1,10 @@
 -- What the rules of the fields say of a whole frame's numbers.
-use Rattle.std.proofs.Common.{◌≡◌, ℕ, ◌+◌, ◌<◌, ◌≤◌, ◌^◌, List, length, drop, subst, ap, ◌∙◌, arith}
+use Rattle.std.proofs.Common.{◌≡◌, ℕ, ◌+◌, ◌<◌, ◌≤◌, ◌^◌, List, length, drop, ◌∙◌, arith}
 use Rattle.std.proofs.lemmas.List.{length-drop}
-use Rattle.vrt_time.specs.Time.{TimeStamp, IsStamp, stamp_of, moment_of}
+use Rattle.vrt_time.specs.Time.{TimeStamp}
 use Rattle.replay_form.specs.Numbers.{number_at}
 use Rattle.replay_form.specs.NumberLaws.{number_at-take}
-use Rattle.replay_form.specs.FrameFields.{IsWholeFrame, AreFrameRight}
+use Rattle.replay_form.specs.FrameFields.{IsWholeFrame}
 
 -- the stamp is one, not before the last, and the datagram has at most 65,535 bytes
 pub record FrameRanges (last : TimeStamp) (bytes : List ℕ) : Type 0 where

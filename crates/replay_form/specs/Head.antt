@@ -1,5 +1,5 @@
 -- What a record's header says.
-use Rattle.std.specs.Prelude.{◌≡◌, ℕ, zero, suc, ◌+◌, ◌*◌, ◌<◌, ◌==◌, Bool, true, false, if◌then◌else◌, List, [], ◌∷◌, ◌++◌, length, slice_index}
+use Rattle.std.specs.Prelude.{◌≡◌, ℕ, zero, suc, ◌+◌, ◌*◌, ◌==◌, Bool, true, false, if◌then◌else◌, List, [], ◌∷◌, ◌++◌}
 use Rattle.vrt_words.specs.Words.{AreBytes}
 use Rattle.vrt_header.specs.Profile.{profile_of}
 use Rattle.cam_field.specs.declared.ident.Ident.{Ident}

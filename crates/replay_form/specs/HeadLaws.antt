@@ -5,7 +5,7 @@ use Rattle.std.proofs.lemmas.Grind.{common_steps}
 use Rattle.vrt_header.specs.Profile.{IsProfile, profile_of}
 use Rattle.replay_form.specs.Numbers.{number_at}
 use Rattle.replay_form.specs.NumberLaws.{number_at-take}
-use Rattle.replay_form.specs.HeadFields.{AreRight, IsGood, IsWholeHead, route_size, IsRightIn, IsRouteCount, is_second, field_at, field_count, head_size, end_of, most_pending, route_at, route_fields, route_field, bound_field, first_fields}
+use Rattle.replay_form.specs.HeadFields.{AreRight, IsGood, IsWholeHead, route_size, IsRouteCount, is_second, field_at, field_count, head_size, end_of, most_pending, route_at, route_fields, route_field, bound_field, first_fields}
 use Rattle.replay_form.specs.declared.head_field.HeadField.TheVariants.{Magic, Number, Zero}
 
 -- the numbers of the header's first part

@@ -1,5 +1,5 @@
 -- The numbers of a header in the order of layout, as they are written.
-use Rattle.std.specs.Prelude.{◌≡◌, ℕ, ◌+◌, ◌*◌, ◌<◌, ◌≤◌, ◌==◌, Bool, true, false, if◌then◌else◌, List, [], ◌∷◌, length, slice_index, get_or, ℤ}
+use Rattle.std.specs.Prelude.{◌≡◌, ℕ, ◌+◌, ◌*◌, ◌<◌, ◌≤◌, ◌==◌, Bool, true, false, if◌then◌else◌, List, [], ◌∷◌, length, slice_index, get_or}
 use Rattle.std.specs.Int.{w64, cast_unsigned}
 use Rattle.vrt_words.specs.Words.{AreBytes}
 use Rattle.vrt_fields.specs.declared.limit.Limit.{Limit}
@@ -7,7 +7,7 @@ use Rattle.vrt_fields.specs.declared.route.Route.{Route}
 use Rattle.cam_field.specs.declared.ident.Ident.{Ident}
 use Rattle.cam_field.specs.declared.ident.Ident.TheVariants as idents
 use Rattle.replay_form.specs.Numbers.{number_at}
-use Rattle.replay_form.specs.HeadFields.{first_magic, second_magic, route_at, route_size, port_at}
+use Rattle.replay_form.specs.HeadFields.{first_magic, second_magic, route_at, route_size}
 use Rattle.replay_form.specs.declared.record_head.RecordHead.{RecordHead}
 
 -- the bytes of a header with these routes

@@ -1,5 +1,5 @@
 -- What a header's bytes say is spelled by its numbers, one after another.
-use Rattle.std.proofs.Common.{◌≡◌, ℕ, zero, suc, ◌+◌, ◌*◌, ◌-◌, ◌<◌, ◌≤◌, ◌^◌, ◌==◌, ◌&&◌, ◌⊎◌, nat_le, if◌then◌else◌, Bool, true, false, List, [], ◌∷◌, ◌++◌, length, take, slice_index, get_or, inl, inr, refl, sym, ap, ◌∙◌, subst, length-append, lit<, lit≤, arith}
+use Rattle.std.proofs.Common.{◌≡◌, ℕ, zero, suc, ◌+◌, ◌*◌, ◌-◌, ◌<◌, ◌≤◌, ◌^◌, ◌==◌, ◌&&◌, ◌⊎◌, nat_le, if◌then◌else◌, Bool, true, false, List, [], ◌∷◌, length, take, slice_index, get_or, inl, inr, refl, sym, ap, ◌∙◌, subst, length-append, lit<, arith}
 use Rattle.std.proofs.lemmas.Grind.{common_steps}
 use Rattle.std.proofs.lemmas.Int.{of_z-to_z}
 use Rattle.std.proofs.lemmas.Bool.{cases_order}
@@ -14,10 +14,10 @@ use Rattle.cam_field.specs.declared.ident.Ident.{Ident}
 use Rattle.cam_field.specs.declared.ident.Ident.TheVariants as idents
 use Rattle.replay_form.specs.Numbers.{number_at, AreNumbers}
 use Rattle.replay_form.specs.NumberLaws.{number_at-take}
-use Rattle.replay_form.specs.Head.{IsHead, IsIdentity, limits_in, limit_in, bounds_in, route_in, routes_in, form_number}
-use Rattle.replay_form.specs.HeadFields.{IsWholeHead, IsGood, is_second, first_magic, second_magic, route_at, route_size, route_fields, route_field, head_size, most_routes}
+use Rattle.replay_form.specs.Head.{IsHead, IsIdentity, limit_in, bounds_in, route_in, routes_in, form_number}
+use Rattle.replay_form.specs.HeadFields.{IsWholeHead, IsGood, is_second, first_magic, second_magic, route_at, route_size, route_fields, route_field, most_routes}
 use Rattle.replay_form.specs.HeadLaws.{whole_ranges, route_good, route_there}
-use Rattle.replay_form.specs.HeadSpelling.{IsHeadStart, IsLimitSpelled, AreLimitsSpelled, IsFirstRoute, IsSecondRoute, IsRouteSpelled, AreRoutesSpelled, identity_form, identity_words, magic_of, size_of_head}
+use Rattle.replay_form.specs.HeadSpelling.{IsHeadStart, IsLimitSpelled, AreLimitsSpelled, IsRouteSpelled, AreRoutesSpelled, identity_form, identity_words, magic_of, size_of_head}
 use Rattle.byteorder.specs.Numbers.{big_from-lt}
 use Rattle.replay_form.specs.declared.head_field.HeadField.TheVariants.{Zero}
 use Rattle.replay_form.specs.declared.record_head.RecordHead.{RecordHead}

@@ -14,3 +14,4 @@ pub mod Record
 pub mod RecordLaws
 pub mod Reading
 pub mod ReadingLaws
+pub mod VerdictLaws

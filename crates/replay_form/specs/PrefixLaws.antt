@@ -1,12 +1,12 @@
 -- Bytes that come behind change nothing of what stands in front of them.
-use Rattle.std.proofs.Common.{◌≡◌, ℕ, zero, suc, ◌+◌, ◌*◌, ◌-◌, ◌/◌, ◌%◌, ◌<◌, ◌≤◌, ◌==◌, ◌&&◌, ◌⊎◌, inl, inr, Bool, true, false, nat_le, List, ◌++◌, length, take, refl, sym, ap, ◌∙◌, subst, length-append, arith}
+use Rattle.std.proofs.Common.{◌≡◌, ℕ, zero, suc, ◌+◌, ◌*◌, ◌<◌, ◌≤◌, inl, inr, Bool, true, nat_le, List, ◌++◌, length, take, refl, sym, ap, ◌∙◌, subst, length-append, arith}
 use Rattle.std.proofs.lemmas.Grind.{common_steps}
 use Rattle.std.proofs.lemmas.Bool.{cases_order}
 use Rattle.std.proofs.lemmas.List.{take-append-le}
 use Rattle.vrt_time.specs.Time.{TimeStamp}
 use Rattle.replay_form.specs.Numbers.{number_at}
 use Rattle.replay_form.specs.NumberLaws.{number_at-append}
-use Rattle.replay_form.specs.HeadFields.{IsRight, IsRightIn, IsGood, AreRight, IsHeadWrongAt, IsFirstWrong, is_second, second_magic, field_at, field_count, end_of, offset_of, route_fields}
+use Rattle.replay_form.specs.HeadFields.{IsRight, IsRightIn, IsGood, AreRight, IsHeadWrongAt, IsFirstWrong, is_second, field_at, field_count, head_size, route_size, route_fields, end_of, offset_of}
 use Rattle.replay_form.specs.FrameFields.{IsFrameRightIn, IsFrameGood, AreFrameRight, IsFrameWrongAt, frame_field, frame_end}
 use Rattle.replay_form.specs.declared.head_field.HeadField.{HeadField}
 use Rattle.replay_form.specs.declared.frame_field.FrameField.{FrameField}
@@ -18,6 +18,17 @@ is_second-append front back h =
     let there : nat_le 8 (length (front ++ back)) ≡ true = grind (arith, common_steps, length-append front back) in
     let here : nat_le 8 (length front) ≡ true = grind (arith, common_steps) in
     rw (there, here, number_at-append 0 8 front back h) refl
+
+-- more bytes: the size that is told stays, and what was judged is judged
+pub size-append : (front back : List ℕ) → 40 ≤ length front → head_size (front ++ back) ≡ head_size front
+size-append front back h =
+    ap (λ s. 332 + route_size s * number_at 36 4 (front ++ back)) (is_second-append front back (omega arith))
+    ∙ ap (λ n. 332 + route_size (is_second front) * n) (number_at-append 36 4 front back h)
+
+pub count-append : (front back : List ℕ) → 40 ≤ length front → field_count (front ++ back) ≡ field_count front
+count-append front back h =
+    ap (λ s. 58 + route_fields s * number_at 36 4 (front ++ back)) (is_second-append front back (omega arith))
+    ∙ ap (λ n. 58 + route_fields (is_second front) * n) (number_at-append 36 4 front back h)
 
 -- a field is as good as before
 pub good-append : (second : Bool) (field : HeadField) (front back : List ℕ) → IsGood second field front → IsGood second field (front ++ back)

@@ -1,10 +1,10 @@
 -- Laws of records: more bytes, one more frame.
-use Rattle.std.proofs.Common.{◌≡◌, ℕ, ◌+◌, ◌<◌, ◌≤◌, ◌⊎◌, inl, inr, List, [], ◌∷◌, ◌++◌, length, take, refl, sym, ap, ◌∙◌, subst, append_assoc, append-nil, length-append, arith}
+use Rattle.std.proofs.Common.{◌≡◌, ℕ, inl, inr, List, [], ◌∷◌, ◌++◌, refl, sym, ap, ◌∙◌, append_assoc, append-nil, length-append, arith}
 use Rattle.vrt_time.specs.Time.{TimeStamp}
 use Rattle.replay_form.specs.Head.{IsHead}
-use Rattle.replay_form.specs.FrameFields.{Frame, IsFrame, IsFramePart, frame_in}
+use Rattle.replay_form.specs.FrameFields.{Frame, IsFrame, IsFramePart}
 use Rattle.replay_form.specs.PrefixLaws.{wrong-append, frame_wrong-append}
-use Rattle.replay_form.specs.Record.{AreFrames, last_stamp, first_stamp, IsCut, IsWrongBehind, IsRecordWrongAt, IsOpen}
+use Rattle.replay_form.specs.Record.{AreFrames, last_stamp, first_stamp, IsCut, IsRecordWrongAt}
 use Rattle.replay_form.specs.declared.record_head.RecordHead.{RecordHead}
 
 -- one more frame

@@ -1,5 +1,4 @@
-use Rattle.std.proofs.Common.{refl}
-use Rattle.replay_form.proofs.Fields.{ends_there, one_more_of_frame}
+use Rattle.replay_form.proofs.Fields.{ends_there}
 use Rattle.replay_form.proofs.frame_field.judge_frame.Goals as goal
 
 -- the field that is judged is whole

@@ -1,9 +1,8 @@
 -- The bytes are those that spell the frame.
-use Rattle.std.proofs.Common.{◌≡◌, ◌+◌, ◌∙◌, length, sym, ap, subst, arith}
-use Rattle.vrt_time.specs.Time.{IsStamp}
+use Rattle.std.proofs.Common.{length, sym, ap, subst, arith}
 use Rattle.vrt_words.specs.Words.{AreBytes}
 use Rattle.replay_form.specs.FrameFields.{Frame, IsFrame}
-use Rattle.replay_form.proofs.FrameSpelling.{frame_spelled, frame_head, frame_parts, spelled_head, written, behind_frame}
+use Rattle.replay_form.proofs.FrameSpelling.{frame_spelled, frame_head, spelled_head, written, behind_frame}
 use Rattle.replay_form.specs.FrameSpelling.{frame_bytes}
 use Rattle.replay_form.proofs.frame_spelling.encode_frame.Goals as goal
 

@@ -1,10 +1,9 @@
 -- The bytes are those that spell the header.
-use Rattle.std.proofs.Common.{◌≡◌, ◌+◌, ◌*◌, ◌≤◌, ◌==◌, ◌∙◌, ℕ, List, length, take, take_all, sym, ap, subst, arith}
-use Rattle.vrt_words.specs.Words.{AreBytes}
+use Rattle.std.proofs.Common.{◌≡◌, ◌+◌, ◌*◌, ◌≤◌, ◌==◌, ◌∙◌, length, take, take_all, sym, ap, subst, arith}
 use Rattle.replay_form.specs.Numbers.{AreNumbers}
 use Rattle.replay_form.specs.Head.{IsHead}
-use Rattle.replay_form.specs.HeadFields.{is_second, route_size, head_size}
-use Rattle.replay_form.specs.HeadSpelling.{AreRoutesSpelled, identity_words, size_of_head}
+use Rattle.replay_form.specs.HeadFields.{is_second, route_size}
+use Rattle.replay_form.specs.HeadSpelling.{AreRoutesSpelled}
 use Rattle.replay_form.specs.HeadSpellingLaws.{head_start, head_form, identity_spelled, limits_spelled, routes_spelled, few_routes, size_told}
 use Rattle.replay_form.proofs.head_spelling.encode_head.Goals as goal
 

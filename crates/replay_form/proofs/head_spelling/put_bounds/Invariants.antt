@@ -1,4 +1,4 @@
-use Rattle.std.proofs.Common.{◌≡◌, ◌+◌, ◌*◌, ◌≤◌, ℕ, List, length, take, drop}
+use Rattle.std.proofs.Common.{◌≡◌, ◌+◌, ◌*◌, ◌≤◌, ℕ, List, take, drop}
 use Rattle.replay_form.specs.HeadSpelling.{AreLimitsSpelled}
 use Rattle.replay_form.proofs.head_spelling.put_bounds.Given as goal
 

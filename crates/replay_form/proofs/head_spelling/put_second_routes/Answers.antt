@@ -1,6 +1,5 @@
 -- One route after another.
-use Rattle.std.proofs.Common.{◌≡◌, ◌+◌, ◌*◌, ◌∙◌, take, drop, length, subst, ap, arith}
-use Rattle.replay_form.specs.HeadSpelling.{AreRoutesSpelled}
+use Rattle.std.proofs.Common.{◌≡◌, ◌+◌, ◌*◌, ◌∙◌, take, length, subst, arith}
 use Rattle.replay_form.proofs.head_spelling.put_second_routes.Goals as goal
 
 pub loop-place-preserved : goal.loop-place-preserved

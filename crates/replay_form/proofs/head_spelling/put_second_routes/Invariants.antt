@@ -1,4 +1,4 @@
-use Rattle.std.proofs.Common.{◌≡◌, ◌+◌, ◌*◌, ◌≤◌, true, ℕ, List, length, take, drop}
+use Rattle.std.proofs.Common.{◌≡◌, ◌+◌, ◌*◌, ◌≤◌, true, ℕ, List, take, drop}
 use Rattle.replay_form.specs.HeadSpelling.{AreRoutesSpelled}
 use Rattle.replay_form.proofs.head_spelling.put_second_routes.Given as goal
 

@@ -1,5 +1,5 @@
 -- Each word is the number at its place.
-use Rattle.std.proofs.Common.{◌≡◌, ◌<◌, ◌+◌, ◌*◌, ◌-◌, ◌∙◌, length, arith}
+use Rattle.std.proofs.Common.{◌≡◌, ◌<◌, ◌*◌, ◌∙◌, length, arith}
 use Rattle.replay_form.specs.NumberLaws.{number_at-between}
 use Rattle.replay_form.proofs.numbers.read_words.Goals as goal
 

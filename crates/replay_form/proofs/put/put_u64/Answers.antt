@@ -1,5 +1,4 @@
 -- The number replaces the bytes there, and nothing else.
-use Rattle.std.proofs.Common.{◌∙◌}
 use Rattle.replay_form.proofs.Putting.{put-is, agrees, stays}
 use Rattle.replay_form.proofs.put.put_u64.Goals as goal
 

@@ -1,5 +1,5 @@
 -- The frame goes on with its datagram.
-use Rattle.std.proofs.Common.{◌≡◌, ◌<◌, ◌≤◌, ◌+◌, ℕ, List, length, take, ◌++◌, sym, ap, subst, ◌∙◌, vec_len, arith}
+use Rattle.std.proofs.Common.{◌≡◌, ◌<◌, ◌≤◌, length, ap, ◌∙◌, arith}
 use Rattle.replay_form.specs.FrameFields.{frame_size}
 use Rattle.replay_form.proofs.Taking.{whole_piece}
 use Rattle.replay_form.proofs.TakingFrames.{frame_most, frame_grown, frame_resumes, datagram_open, datagram_whole}

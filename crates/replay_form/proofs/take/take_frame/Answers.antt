@@ -1,9 +1,9 @@
 -- The frame begins, or goes on.
-use Rattle.std.proofs.Common.{◌≡◌, ◌<◌, ◌≤◌, ◌+◌, ℕ, List, length, take, drop, ◌++◌, sym, ap, subst, ◌∙◌, vec_len, arith}
+use Rattle.std.proofs.Common.{◌<◌, ◌+◌, length, subst, arith}
 use Rattle.std.proofs.lemmas.List.{take_rest}
 use Rattle.replay_form.specs.FrameFields.{IsFrameJudged, IsFrameWrongAt}
 use Rattle.replay_form.proofs.Taking.{whole_piece}
-use Rattle.replay_form.proofs.TakingFrames.{frame_wrong_in_piece, frame_part, frame_begins, part_of_datagram, whole_of_datagram, frame_takes_some}
+use Rattle.replay_form.proofs.TakingFrames.{frame_wrong_in_piece, frame_part, frame_begins, whole_of_datagram, frame_takes_some}
 use Rattle.replay_form.proofs.take.take_frame.Goals as goal
 
 pub returns-in-Err-clause-wrong : goal.returns-in-Err-clause-wrong

@@ -1,7 +1,7 @@
 -- The header begins, or goes on.
-use Rattle.std.proofs.Common.{◌≡◌, ◌<◌, ◌≤◌, ◌+◌, ◌*◌, ℕ, List, length, take, drop, ◌++◌, sym, ap, subst, ◌∙◌, vec_len, arith}
+use Rattle.std.proofs.Common.{◌≡◌, ◌<◌, ◌+◌, length, sym, ap, subst, ◌∙◌, vec_len, arith}
 use Rattle.std.proofs.lemmas.List.{take_rest}
-use Rattle.replay_form.specs.HeadFields.{IsJudged, IsHeadWrongAt, field_count, head_size}
+use Rattle.replay_form.specs.HeadFields.{IsJudged, IsHeadWrongAt, field_count}
 use Rattle.replay_form.proofs.Taking.{open_resumes, wrong_in_piece, whole_piece, judged_open, begins, part_of_rest, whole_of_rest, least_size, head_takes_some}
 use Rattle.replay_form.proofs.take.take_head.Goals as goal
 

@@ -1,6 +1,6 @@
 -- The header goes on with its routes.
-use Rattle.std.proofs.Common.{◌≡◌, ◌<◌, ◌≤◌, ◌+◌, ℕ, List, length, take, ◌++◌, sym, ap, subst, ◌∙◌, vec_len, arith}
-use Rattle.replay_form.specs.HeadFields.{AreRight, IsJudged, IsHeadWrongAt, field_count, head_size}
+use Rattle.std.proofs.Common.{◌≡◌, ◌<◌, ◌≤◌, length, sym, ap, subst, ◌∙◌, vec_len, arith}
+use Rattle.replay_form.specs.HeadFields.{IsJudged, IsHeadWrongAt, field_count, head_size}
 use Rattle.replay_form.proofs.Taking.{few_routes, begun_resumes, wrong_in_piece, whole_piece, judged_open, judged_whole, grown_size}
 use Rattle.replay_form.proofs.take.take_routes.Goals as goal
 

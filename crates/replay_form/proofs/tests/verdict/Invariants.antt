@@ -1,4 +1,4 @@
-use Rattle.std.proofs.Common.{◌≡◌, ◌≤◌, ◌-◌, ℕ, List, length, take, None}
+use Rattle.std.proofs.Common.{◌≡◌, ◌≤◌, ◌-◌, List, length, take, None}
 use Rattle.replay_form.specs.FrameFields.{Frame}
 use Rattle.replay_form.specs.Reading.{StandsFor}
 use Rattle.replay_form.proofs.tests.verdict.Given as goal

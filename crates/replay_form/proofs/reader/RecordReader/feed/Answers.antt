@@ -1,8 +1,7 @@
 -- The laws of the definitions, at the call's facts.
-use Rattle.std.proofs.Common.{◌≡◌, ℕ, List, ◌++◌, take, Result, Ok, Err, IfOk, IfErr, OnErr}
+use Rattle.std.proofs.Common.{Result, Ok, Err, IfErr, OnErr}
 use Rattle.std.proofs.lemmas.Result.{IfOk-weaker}
-use Rattle.replay_form.specs.FrameFields.{Frame}
-use Rattle.replay_form.specs.Reading.{StandsFor, IsStep, IsFailed, frames_after}
+use Rattle.replay_form.specs.Reading.{IsStep, IsFailed}
 use Rattle.replay_form.specs.ReadingLaws.{step_stands, step_few, failed_stands}
 use Rattle.replay_form.proofs.reader.RecordReader.feed.Goals as goal
 

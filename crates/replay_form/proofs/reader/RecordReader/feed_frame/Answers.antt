@@ -1,5 +1,5 @@
 -- The frame is held whole, and the next one has not begun.
-use Rattle.std.proofs.Common.{◌≡◌, ◌<◌, ◌≤◌, ◌+◌, ◌^◌, ◌++◌, ◌∙◌, if◌then◌else◌, [], length, take, sym, ap, subst, true, false, Bool, None, vec_len, length-append, arith}
+use Rattle.std.proofs.Common.{◌≡◌, ◌<◌, ◌+◌, ◌^◌, ◌∙◌, if◌then◌else◌, [], length, take, sym, ap, true, false, None, vec_len, length-append, arith}
 use Rattle.std.proofs.lemmas.Grind.{common_steps}
 use Rattle.std.proofs.lemmas.List.{length-take-le}
 use Rattle.replay_form.specs.RecordLaws.{nothing_open}

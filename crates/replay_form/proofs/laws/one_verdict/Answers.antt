@@ -1,0 +1,18 @@
+-- The laws of the definitions.
+use Rattle.replay_form.specs.VerdictLaws as laws
+use Rattle.replay_form.proofs.laws.one_verdict.Goals as goal
+
+pub returns-clause-one_record : goal.returns-clause-one_record
+returns-clause-one_record c = laws.one_record
+
+pub returns-clause-one_place : goal.returns-clause-one_place
+returns-clause-one_place c = laws.one_place
+
+pub returns-clause-record_not_wrong : goal.returns-clause-record_not_wrong
+returns-clause-record_not_wrong c = laws.record_not_wrong
+
+pub returns-clause-record_not_inside : goal.returns-clause-record_not_inside
+returns-clause-record_not_inside c = laws.record_not_inside
+
+pub returns-clause-wrong_not_inside : goal.returns-clause-wrong_not_inside
+returns-clause-wrong_not_inside c = laws.wrong_not_inside
