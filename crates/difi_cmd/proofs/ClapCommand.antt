@@ -1,5 +1,5 @@
 -- A command of `clap` with options of one value each: where a parse fails, and what it gives.
-use Rattle.std.proofs.Common.{◌≡◌, ◌||◌, ◌&&◌, ◌∙◌, ℕ, Bool, true, false, not, List, [], ◌∷◌, drop, Option, Some, None, map, fold, refl, sym, ap, subst, inl, inr, codes, Contains, All}
+use Rattle.std.proofs.Common.{◌≡◌, ◌&&◌, ◌∙◌, ℕ, Bool, true, false, not, List, [], ◌∷◌, drop, Option, None, map, fold, refl, sym, ap, subst, inl, inr, codes, All}
 use Rattle.std.specs.List.{list_all, list_any}
 use Rattle.clap.specs.declared.error.Error.{Error}
 use Rattle.clap.specs.declared.error.kind.ErrorKind.TheVariants.{OutOfMemory}

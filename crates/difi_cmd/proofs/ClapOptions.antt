@@ -1,5 +1,5 @@
 -- The options of a command of `clap` with one value each: how they are found, and the rows of their uses.
-use Rattle.std.proofs.Common.{◌≡◌, ◌≢◌, ◌<◌, ◌≤◌, ◌+◌, ◌==◌, ◌&&◌, ◌||◌, ◌++◌, ◌∙◌, ℕ, Bool, true, false, not, zero, suc, List, [], ◌∷◌, Option, Some, None, option_map, map, codes, refl, ap, inl, inr, ◌⊎◌, arith, rules, Contains}
+use Rattle.std.proofs.Common.{◌≡◌, ◌||◌, ◌++◌, ℕ, Bool, true, false, zero, suc, List, [], ◌∷◌, Option, Some, None, option_map, map, codes, refl, ap, inl, inr, ◌⊎◌, arith, Contains}
 use Rattle.std.specs.Str.{bytes_eq}
 use Rattle.std.proofs.lemmas.List.{append-nil}
 use Rattle.std.proofs.lemmas.Slice.Eq.{bytes_eq-Decides}
@@ -7,7 +7,7 @@ use Rattle.clap.specs.Words.{Row, Rule, new_rule}
 use Rattle.clap.specs.Kinds.{Kinds, or_else}
 use Rattle.clap.specs.Simple.{Shape, new_shape}
 use Rattle.clap.specs.Faults.{settle_fault, use_fault}
-use Rattle.clap.specs.Walk.{Held, arg_by_id, arg_by_index, arg_by_long, at_row, has_row, option, reading_by, settled, used, walk}
+use Rattle.clap.specs.Walk.{Held, arg_by_id, arg_by_index, arg_by_long, at_row, has_row, reading_by, settled, used}
 use Rattle.clap.specs.declared.builder.action.ArgAction.TheVariants.{Set}
 use Rattle.clap.specs.declared.builder.value_parser.ValueParser.TheVariants as vp
 use Rattle.clap.specs.declared.parser.matches.ValueSource.TheVariants.{CommandLine}

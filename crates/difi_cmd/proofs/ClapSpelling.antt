@@ -1,10 +1,9 @@
 -- How items are spelled: none of their words is stray, and no words are other items too.
-use Rattle.std.proofs.Common.{◌≡◌, ◌≢◌, ◌<◌, ◌≤◌, ◌+◌, ◌==◌, ◌&&◌, ◌||◌, ◌++◌, ◌∙◌, false, List, [], ◌∷◌, Option, Some, None, codes, refl, sym, ap, ap₂, ◌⊎◌, arith, Contains, All, unwrap_or}
+use Rattle.std.proofs.Common.{◌≡◌, ◌≢◌, ◌==◌, ◌++◌, ◌∙◌, false, List, [], ◌∷◌, Option, Some, None, codes, refl, sym, ap, ap₂, arith, Contains, All, unwrap_or}
 use Rattle.std.specs.List.{list_any, flat_map}
 use Rattle.std.proofs.lemmas.List.Elements.{All-contains, All-head, All-tail}
 use Rattle.clap.specs.Lexer.{long_of}
 use Rattle.std.proofs.lemmas.Bool.Decides.{nat_tests}
-use Rattle.clap.specs.declared.builder.value_parser.ValueParser.TheVariants as vp
 use Rattle.difi_cmd.specs.LineOfWords.{BeginsWithHyphen, Item, IsItem, Text, apart, is_stray, joined, words_of_item}
 use Rattle.difi_cmd.proofs.ClapTurns.{IsName, long_apart, long_joined}
 

@@ -1,5 +1,5 @@
 -- What `clap` makes of one word.
-use Rattle.std.proofs.Common.{◌≡◌, ◌≢◌, ◌<◌, ◌≤◌, ◌+◌, ◌==◌, ◌&&◌, ◌||◌, ◌++◌, ◌∙◌, ℕ, Bool, true, false, not, zero, suc, List, [], ◌∷◌, length, Option, Some, None, map, codes, refl, sym, ap, ap₂, subst, inl, inr, ◌⊎◌, arith, Contains}
+use Rattle.std.proofs.Common.{◌≡◌, ◌≢◌, ◌<◌, ◌==◌, ◌++◌, ◌∙◌, ℕ, Bool, true, false, zero, suc, List, [], ◌∷◌, length, Option, Some, None, map, codes, refl, sym, ap, ap₂, subst, inl, inr, ◌⊎◌, arith, Contains}
 use Rattle.std.specs.Str.{bytes_eq}
 use Rattle.std.proofs.lemmas.List.{append_assoc}
 use Rattle.std.proofs.lemmas.Slice.Eq.{bytes_eq-Decides}
@@ -11,7 +11,6 @@ use Rattle.clap.proofs.LexerLemmas.{name_and_value-at, name_and_value-without}
 use Rattle.std.proofs.lemmas.Bool.Decides.{nat_tests}
 use Rattle.clap.specs.Faults.{react_fault, settle_fault, turn_fault}
 use Rattle.clap.specs.Walk.{Held, Waiting, Walk, arg_by_long, idle, option, positional, reacted, settled, walk_from, walked}
-use Rattle.clap.specs.declared.builder.value_parser.ValueParser.TheVariants as vp
 use Rattle.difi_cmd.specs.LineOfWords.{BeginsWithHyphen, Text, is_stray}
 use Rattle.difi_cmd.proofs.ClapOptions.{built_rule, built_shape, known_id, known_long, no_position, same_text}
 

@@ -1,5 +1,5 @@
 -- What `clap` makes of all words: they pass exactly where they are items.
-use Rattle.std.proofs.Common.{◌≡◌, ◌≢◌, ◌<◌, ◌≤◌, ◌+◌, ◌==◌, ◌&&◌, ◌||◌, ◌++◌, ◌∙◌, false, List, [], ◌∷◌, Option, Some, None, map, fold, codes, refl, sym, ap, ap₂, subst, inl, inr, ◌⊎◌, Contains, All}
+use Rattle.std.proofs.Common.{◌≡◌, ◌++◌, ◌∙◌, false, List, [], ◌∷◌, Option, Some, None, map, fold, codes, refl, sym, ap, ap₂, subst, inl, inr, Contains, All}
 use Rattle.std.specs.List.{list_any, flat_map}
 use Rattle.std.proofs.lemmas.List.Elements.{All-contains, All-head, All-tail, All-nil, All-cons}
 use Rattle.clap.specs.Words.{Row}
@@ -7,7 +7,6 @@ use Rattle.clap.specs.Kinds.{Kinds, or_else}
 use Rattle.clap.specs.Lexer.{long_of}
 use Rattle.clap.specs.Faults.{settle_fault, turn_fault, use_fault, walk_fault}
 use Rattle.clap.specs.Walk.{Walk, idle, option, settled, used, walk_from, walked}
-use Rattle.clap.specs.declared.builder.value_parser.ValueParser.TheVariants as vp
 use Rattle.difi_cmd.specs.LineOfWords.{BeginsWithHyphen, Item, IsItem, Text, apart, is_stray, joined, option_of, words_of_item}
 use Rattle.difi_cmd.proofs.ClapOptions.{IsKnown, Once, after, built_rule, built_shape, found_long, given, held_for, known_id, neither_first, neither_second, none_first, once_passes, rows_for, settled_passes, settled_rows_are, settles, use_passes, used_once}
 use Rattle.difi_cmd.proofs.ClapTurns.{IsJoined, IsName, IsOpened, WordCase, is_joined, is_opened, is_plain, joined_turn, long_apart, long_joined, no_value_turn, opened_turn, plain_from, plain_turn, unknown_turn, value_turn, waits_for, word_case}
@@ -30,9 +29,6 @@ unfolding walk_fault
 with_first names w next word words turn is p =
     let q : Passes names (walked (map built_rule names) [] w word) words = subst (λ (v : Walk). Passes names v words) (sym is) p in
     record { on_the_way = ap (λ (k : Kinds). or_else k (walk_fault (built_shape names) [] (walked (map built_rule names) [] w word) words)) turn ∙ q.on_the_way; at_the_end = q.at_the_end }
-
-pub rows_at_end : List Text → Walk → List Text → List Row
-rows_at_end names w words = (settled (map built_rule names) (fold (walked (map built_rule names) []) w words).held).rows
 
 -- the words are items with these rows
 pub record Reads (names : List Text) (before : List Item) (w : Walk) (words : List Text) : Type 0 where

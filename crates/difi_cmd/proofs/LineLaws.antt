@@ -1,5 +1,5 @@
 -- Words ask for one line at most, and none of its words is `--`.
-use Rattle.std.proofs.Common.{◌≡◌, ◌≢◌, ◌||◌, ◌∙◌, ℕ, Bool, ap₂, true, false, List, [], ◌∷◌, drop, Option, Some, None, String, codes, map, string_bytes, refl, sym, ap, subst, All}
+use Rattle.std.proofs.Common.{◌≡◌, ◌≢◌, ◌∙◌, ℕ, ap₂, true, false, List, [], ◌∷◌, drop, Option, Some, None, String, codes, map, string_bytes, refl, sym, subst, All}
 use Rattle.std.specs.List.{list_any}
 use Rattle.std.proofs.lemmas.List.Elements.{All-cons, All-nil}
 use Rattle.difi_cmd.specs.declared.lines.Listing.{Listing}

@@ -1,11 +1,11 @@
 -- The one option of a listing, `--max-bytes`.
-use Rattle.std.proofs.Common.{◌≡◌, ◌<◌, ◌==◌, ◌||◌, ◌∙◌, ℕ, Bool, true, false, zero, suc, List, [], ◌∷◌, drop, Option, Some, None, refl, sym, ap, arith, Contains, All, lit<}
+use Rattle.std.proofs.Common.{◌≡◌, ◌==◌, ◌∙◌, true, false, zero, suc, List, [], ◌∷◌, drop, Option, Some, None, refl, sym, ap, arith, Contains, All, lit<}
 use Rattle.std.specs.List.{list_any}
 use Rattle.std.proofs.lemmas.List.Elements.{All-cons, All-nil}
 use Rattle.clap.proofs.CutLemmas.{Lacks}
 use Rattle.clap.specs.Words.{fault_of, first_of, matches_of}
 use Rattle.difi_cmd.specs.declared.words.Line.{Line}
-use Rattle.difi_cmd.specs.LineOfWords.{AsksBehind, GiveOption, Gives, Item, Text, is_stray, max_bytes_option, max_bytes_range, value_list, values_of}
+use Rattle.difi_cmd.specs.LineOfWords.{AsksBehind, GiveOption, Gives, Text, is_stray, max_bytes_option, max_bytes_range, value_list, values_of}
 use Rattle.difi_cmd.proofs.ClapOptions.{neither_second}
 use Rattle.difi_cmd.proofs.ClapTurns.{IsName}
 use Rattle.difi_cmd.proofs.ClapSpelling.{one_spelling}

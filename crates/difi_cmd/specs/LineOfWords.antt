@@ -1,7 +1,7 @@
 -- What a line of words asks for: a command, and options with their values.
 use Rattle.std.specs.Prelude.{◌≡◌, ◌≤◌, ◌==◌, ◌&&◌, ◌++◌, ◌^◌, ℕ, Bool, false, not, List, [], ◌∷◌}
-use Rattle.std.specs.Prelude.{All, Contains, None, Option, Some, String, codes, drop, filter, length}
-use Rattle.std.specs.Prelude.{map, string_bytes}
+use Rattle.std.specs.Prelude.{All, Contains, None, Option, Some, String, codes, drop, filter}
+use Rattle.std.specs.Prelude.{length, map, string_bytes}
 use Rattle.std.specs.List.{flat_map, list_any}
 use Rattle.std.specs.Str.{bytes_eq}
 use Rattle.std.specs.Str.Parse.{IsNumeral, digits_value}
@@ -108,6 +108,10 @@ pub record Asks {A : Type 0} (words : List (String A)) (line : Line) : Type 0 wh
   pub named : IsNamedFirst (map string_bytes words) line.listing
   pub behind : AsksBehind (drop 1 (map string_bytes words)) line
 
+-- the words are a line of the program
+abbrev pub IsLine : {A : Type 0} → List (String A) → Type 0
+IsLine words = (line : Line) × Asks words line
+
 -- ---- the parts of the reading
 
 -- the first word names the listing
@@ -131,14 +135,16 @@ value_list None = []
 value_list (Some value) = value ∷ []
 
 -- the words are items of these options, which give one option this value, or none
-pub record GiveOption (options : List Text) (name : Text) (words : List Text) (value : Option Text) : Type 0 where
+pub record GiveOption (options : List Text) (name : Text) (words : List Text) (value : Option Text)
+    : Type 0 where
   pub items : List Item
   pub are_items : AreItems options words items
   pub values : values_of name items ≡ value_list value
 
 -- the words behind the first give `--max-bytes` this value, or none, and nothing else
 abbrev pub GiveMaxBytes : {A : Type 0} → List (String A) → Option Text → Type 0
-GiveMaxBytes words value = GiveOption (max_bytes_option ∷ []) max_bytes_option (drop 1 (map string_bytes words)) value
+GiveMaxBytes words value =
+    GiveOption (max_bytes_option ∷ []) max_bytes_option (drop 1 (map string_bytes words)) value
 
 -- the number that this value of `--max-bytes`, or none, stands for
 abbrev pub IsMaxBytes : Option Text → ℕ → Type 0

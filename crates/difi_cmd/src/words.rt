@@ -1,10 +1,13 @@
-ghost use Rattle.std.specs.Prelude.{◌≡◌, ◌≢◌, ◌↔◌, ◌≤◌, ◌^◌, ℕ, Option, IfOk, IfSome, IfNone, IsTrue};
+ghost use Rattle.std.specs.Prelude.{◌≡◌, ◌≢◌, ◌↔◌, ◌≤◌, ◌^◌, ℕ, Option};
+ghost use Rattle.std.specs.Prelude.{IfOk, IfSome, IfNone, IsTrue};
 ghost use Rattle.std.specs.Prelude.{All, codes, map, option_map, string_bytes};
 ghost use Rattle.std.specs.Char.{is_ascii_digit};
 ghost use Rattle.std.specs.List.{list_all, list_any};
 ghost use Rattle.std.specs.Str.Parse.{digits_value};
-ghost use Rattle.difi_cmd.specs.LineOfWords.{Asks, GiveMaxBytes, IsMaxBytes, IsValue, NamesListing, Text};
-ghost use Rattle.difi_cmd.specs.LineOfWords.{has_stray as has_stray_word, is_stray as is_stray_word};
+ghost use Rattle.difi_cmd.specs.LineOfWords.{Asks, GiveMaxBytes, IsMaxBytes, IsValue};
+ghost use Rattle.difi_cmd.specs.LineOfWords.{NamesListing, Text};
+ghost use Rattle.difi_cmd.specs.LineOfWords.{has_stray as has_stray_word};
+ghost use Rattle.difi_cmd.specs.LineOfWords.{is_stray as is_stray_word};
 
 use crate::lines::Listing;
 use clap::error::ErrorKind;
@@ -32,14 +35,16 @@ pub(crate) enum WordsFault {
     Memory,
 }
 
+const MOST_DIGITS: usize = 19;
+
 const MAX_BYTES: &str = "max-bytes";
 
 const DEFAULT_MAX_BYTES: u64 = 1 << 40;
 
 const GREATEST_MAX_BYTES: u64 = 1 << 62;
 
-/// What these words ask for, which are those behind the program's name: first the word of a command,
-/// then options with their values, each as `--max-bytes N` or as `--max-bytes=N`.
+/// What these words ask for, which are those behind the program's name: first the word of a
+/// command, then options with their values, each as `--max-bytes N` or as `--max-bytes=N`.
 pub(crate) fn line_of(alloc: Global, words: &[String]) -> Result<Line, WordsFault>
     ensures found { IfOk result (λ line. Asks words.now line) }
     ensures usage { result ≡ Err WordsFault.Usage → (line : Line) → ¬ Asks words.now line }
@@ -130,7 +135,8 @@ fn is_stray(word: &str) -> bool
 
 // The number of bytes that a value of `--max-bytes` writes, or its default.
 fn max_bytes_of(value: Option<&str>) -> Option<u64>
-    ensures found { IfSome result (λ number. IsMaxBytes (option_map (λ s. s.now) value.entry) number) }
+    ensures found { IfSome result (λ number.
+        IsMaxBytes (option_map (λ s. s.now) value.entry) number) }
     ensures none { IfNone result ((number : ℕ) →
         ¬ IsMaxBytes (option_map (λ s. s.now) value.entry) number) }
 {
@@ -145,7 +151,8 @@ fn max_bytes_of(value: Option<&str>) -> Option<u64>
 
 // The number that 1 to 19 decimal digits write.
 fn number_of(text: &str) -> Option<u64>
-    ensures found { IfSome result (λ number. IsValue text.now × (number ≡ digits_value 10 text.now)) }
+    ensures found { IfSome result (λ number.
+        IsValue text.now × (number ≡ digits_value 10 text.now)) }
     ensures none { IfNone result (¬ IsValue text.now) }
 {
     if is_value(text) {
@@ -159,7 +166,7 @@ fn is_value(text: &str) -> bool
     ensures { IsTrue result ↔ IsValue text.now }
 {
     let digits = text.as_bytes();
-    !digits.is_empty() && digits.len() <= 19 && all_digits(digits)
+    !digits.is_empty() && digits.len() <= MOST_DIGITS && all_digits(digits)
 }
 
 fn all_digits(bytes: &[u8]) -> bool
@@ -171,7 +178,8 @@ fn all_digits(bytes: &[u8]) -> bool
 /// Laws that a proof can cite: words ask for one line at most, and `--` is none of them.
 #[inline]
 pub fn words_ask_for_one_line(words: &[String])
-    ensures one_line { (line other : Line) → Asks words.now line → Asks words.now other → line ≡ other }
+    ensures one_line { (line other : Line) →
+        Asks words.now line → Asks words.now other → line ≡ other }
     ensures no_dashes { (line : Line) → Asks words.now line →
         All (λ word. word ≢ codes "--") (map string_bytes words.now) }
 {}

@@ -1,4 +1,4 @@
-use Rattle.std.proofs.Common.{◌≡◌, ◌∙◌, ap, drop, map, refl, rules, string_bytes, sym}
+use Rattle.std.proofs.Common.{◌∙◌, ap, drop, map, string_bytes, sym}
 use Rattle.std.specs.List.{list_any}
 use Rattle.clap.proofs.WalkLemmas.{list_any-map}
 use Rattle.difi_cmd.specs.LineOfWords.{is_stray}

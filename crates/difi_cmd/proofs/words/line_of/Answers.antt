@@ -1,4 +1,4 @@
-use Rattle.std.proofs.Common.{◌≡◌, List, Option, map, refl, string_bytes, subst, sym, drop}
+use Rattle.std.proofs.Common.{Option, subst}
 use Rattle.difi_cmd.specs.LineOfWords.{Gives, Text, max_bytes_range, value_list}
 use Rattle.difi_cmd.proofs.MaxBytes.{one_value, value_of_line}
 use Rattle.difi_cmd.proofs.words.line_of.Goals as goal

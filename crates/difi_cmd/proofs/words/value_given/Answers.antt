@@ -1,8 +1,8 @@
-use Rattle.std.proofs.Common.{◌≡◌, ◌∙◌, List, MatchResult, ap, ap₂, codes, drop, inl, inr, map, refl, rules, string_bytes, subst, sym, true, false}
-use Rattle.clap.specs.Words.{App, FailsBy, app_of, fault_of, first_of, found_of, is_simple, is_simple_and_free, matches_of, new_app, rows_of, rule_of, with_rule}
-use Rattle.clap.specs.Simple.{app_of_fields, new_shape}
+use Rattle.std.proofs.Common.{◌≡◌, ◌∙◌, ap, ap₂, drop, map, rules, string_bytes, subst, sym, true, false}
+use Rattle.clap.specs.Words.{App, app_of, fault_of, first_of, found_of, is_simple, is_simple_and_free, matches_of, rule_of, with_rule}
+use Rattle.clap.specs.Simple.{app_of_fields}
 use Rattle.clap.proofs.WalkLemmas.{first_value-rows}
-use Rattle.difi_cmd.specs.LineOfWords.{GiveOption, Text, max_bytes_option}
+use Rattle.difi_cmd.specs.LineOfWords.{GiveOption, max_bytes_option}
 use Rattle.difi_cmd.proofs.ClapOptions.{option_rule}
 use Rattle.difi_cmd.proofs.ClapCommand.{app, bare, is_free_app, is_simple_app, only_memory}
 use Rattle.difi_cmd.proofs.MaxBytes.{gives, names, no_fault, no_stray}
