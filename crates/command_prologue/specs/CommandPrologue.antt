@@ -1,0 +1,76 @@
+-- The prologue of commands, cancellations and acknowledgements, one line for each of its parts.
+use Rattle.std.specs.Prelude.{◌≡◌, ℕ, ◌+◌, ◌*◌, ◌≤◌, Bool, true, false, List, ◌∷◌, ◌++◌, length, take, drop}
+use Rattle.vrt_header.specs.Profile.{PacketProfile}
+use Rattle.vrt_header.specs.Header.{prologue_words}
+use Rattle.vrt_header.specs.Prologue.{IsPrologue}
+use Rattle.vrt_header.specs.declared.header.Kind.{Kind}
+use Rattle.vrt_header.specs.declared.header.Kind.TheVariants as kinds
+use Rattle.vrt_header.specs.declared.prologue.Prologue.{Prologue}
+use Rattle.cam_field.specs.Cam.{IsCam}
+use Rattle.cam_field.specs.Ident.{is_named, is_uuid, ident_words, ident_size}
+use Rattle.cam_field.specs.Spelling.{bit_of}
+use Rattle.cam_field.specs.declared.cam.Cam.{Cam}
+use Rattle.cam_field.specs.declared.ident.Ident.{Ident}
+use Rattle.cam_field.specs.declared.modes.Role.{Role}
+use Rattle.cam_field.specs.declared.modes.Role.TheVariants.{Control, Cancel, Ack}
+use Rattle.command_prologue.specs.declared.prologue.CommandPrologue.{CommandPrologue}
+
+-- the kind of packet that has the role
+abbrev pub kind_of : Role → Kind
+kind_of Control = kinds.Control
+kind_of Cancel = kinds.Cancel
+kind_of Ack = kinds.Ack
+
+-- an identity that is there or not, and a UUID or not
+pub record IsIdentity (named uuid : Bool) (ident : Ident) : Type 0 where
+  pub there : is_named ident ≡ named
+  pub form : is_uuid ident ≡ uuid
+  pub size : length (ident_words ident) ≡ ident_size named uuid
+
+-- the words of both identities
+abbrev pub identity_words : Cam → ℕ
+identity_words cam = ident_size cam.ce cam.ie + ident_size cam.cr cam.ir
+
+-- the masks of fields behind the identities of an acknowledgement: one for warnings, and one for errors
+abbrev pub masks_in : Cam → ℕ
+masks_in cam = bit_of cam.warned + bit_of cam.erred
+
+-- A mask of fields has up to 19 words of values, or up to twelve responses.
+abbrev pub IsAnswerSize : Bool → ℕ → ℕ → Type 0
+IsAnswerSize true masks size = (1 ≤ size) × (size ≤ 20)
+IsAnswerSize false masks size = (masks ≤ size) × (size ≤ 13 * masks)
+
+-- the words that can stand behind the identities
+abbrev pub IsContentSize : Role → Cam → ℕ → Type 0
+IsContentSize Control cam size = (1 ≤ size) × (size ≤ 20)
+IsContentSize Cancel cam size = size ≡ 1
+IsContentSize Ack cam size = IsAnswerSize cam.s (masks_in cam) size
+
+-- the word is the mode word of a packet with this prologue, whose size leaves words that can stand behind the identities
+pub record IsMode (role : Role) (prologue : Prologue) (cam : Cam) (word : ℕ) : Type 0 where
+  pub spelled : IsCam role prologue.header.timed cam word
+  pub content : ℕ
+  pub size : prologue.header.size ≡ prologue_words prologue.header.timed + 2 + identity_words cam + content
+  pub allowed : IsContentSize role cam content
+
+-- the words behind the prologue: the mode word, the message identifier, the controllee and the controller
+pub record IsBehind (role : Role) (front : CommandPrologue) (words : List ℕ) : Type 0 where
+  pub mode_word : ℕ
+  pub mode : IsMode role front.prologue front.cam mode_word
+  pub controllee : IsIdentity front.cam.ce front.cam.ie front.controllee
+  pub controller : IsIdentity front.cam.cr front.cam.ir front.controller
+  pub all : words ≡ mode_word ∷ front.message ∷ (ident_words front.controllee ++ ident_words front.controller)
+
+-- a prologue of the kind that has the role
+pub record IsPrologueOf (profile : PacketProfile) (role : Role) (p : Prologue) (words : List ℕ) : Type 0 where
+  pub prologue : IsPrologue profile p words
+  pub kind : p.header.kind ≡ kind_of role
+
+-- these words, and no others, are the prologue of a packet with this role
+pub record IsCommandPrologue (profile : PacketProfile) (role : Role) (front : CommandPrologue) (words : List ℕ) : Type 0 where
+  pub prologue : IsPrologueOf profile role front.prologue (take (prologue_words front.prologue.header.timed) words)
+  pub behind : IsBehind role front (drop (prologue_words front.prologue.header.timed) words)
+
+-- its words
+abbrev pub command_words : CommandPrologue → ℕ
+command_words front = prologue_words front.prologue.header.timed + 2 + identity_words front.cam

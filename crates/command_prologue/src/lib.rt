@@ -1,0 +1,18 @@
+//! The prologue of commands, cancellations and acknowledgements: a packet's prologue, the control
+//! and acknowledge mode word, the message identifier, and the identities of the controllee and the
+//! controller (after ANSI/VITA 49.2-2017, section 8.2).
+#![tactic(auto)]
+
+mod identity;
+mod length;
+mod mode;
+mod prologue;
+mod reading;
+mod round_trip;
+mod spelling;
+
+pub use crate::length::check_size;
+pub use crate::prologue::CommandPrologue;
+pub use crate::reading::read_command_prologue;
+pub use crate::round_trip::one_to_one;
+pub use crate::spelling::write_command_prologue;

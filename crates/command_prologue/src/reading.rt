@@ -1,0 +1,122 @@
+ghost use Rattle.std.specs.Prelude.{◌≡◌, ◌+◌, ◌≤◌, ◌<◌, ◌↔◌, ℕ, IsTrue, true, length, take, drop, slice_index, IfOk, IfErr, Ok};
+ghost use Rattle.vrt_words.specs.Words.{words_of};
+ghost use Rattle.vrt_words.specs.Begins.{IsRefusedAt};
+ghost use Rattle.vrt_header.specs.Header.{IsKind, prologue_words};
+ghost use Rattle.vrt_header.specs.declared.prologue.Prologue.{Prologue};
+ghost use Rattle.cam_field.specs.declared.cam.Cam.{Cam};
+ghost use Rattle.command_prologue.specs.CommandPrologue.{kind_of, identity_words, IsMode, IsBehind, IsPrologueOf, IsCommandPrologue, command_words};
+ghost use Rattle.command_prologue.specs.Steps.{IsCutAt, AreNamed};
+ghost use Rattle.command_prologue.specs.declared.prologue.CommandPrologue.{CommandPrologue};
+
+use crate::identity::{identity_at, identity_size};
+use crate::mode::{identities_size, mode_of, prologue_size};
+use crate::prologue::CommandPrologue;
+use cam_field::{Cam, Role};
+use vrt_header::{Profile, Prologue, read_prologue};
+use vrt_words::{Place, bits_of, word_at, word_or_place};
+
+/// The prologue with which a packet of this role begins. What stands behind it is not judged, but
+/// the size in the header has to leave words that can stand there.
+///
+/// `Err` at the first word with which no such prologue goes on, or at the number of whole words
+/// where they end inside one.
+pub fn read_command_prologue(
+    profile: Profile,
+    role: Role,
+    bytes: &[u8],
+) -> Result<CommandPrologue, Place>
+    ensures found { IfOk result (λ front. (command_words front ≤ length (words_of bytes.now))
+        × IsCommandPrologue profile role front (take (command_words front) (words_of bytes.now))) }
+    ensures only { (front : CommandPrologue) (n : ℕ) → IsCommandPrologue profile role front (take n (words_of bytes.now))
+        → result ≡ Ok front }
+    ensures refused { IfErr result (λ place. IsRefusedAt (IsCommandPrologue profile role) (words_of bytes.now) place.word) }
+{
+    match prologue_of(profile, role, bytes) {
+        Ok(prologue) => read_behind(prologue, role, bytes),
+        Err(place) => Err(place),
+    }
+}
+
+// The prologue of a packet of the kind that has the role.
+fn prologue_of(profile: Profile, role: Role, bytes: &[u8]) -> Result<Prologue, Place>
+    ensures found { IfOk result (λ prologue.
+        IsPrologueOf profile role prologue (take (prologue_words prologue.header.timed) (words_of bytes.now))) }
+    ensures none { IfErr result (λ place. (prologue : Prologue) (n : ℕ)
+        → ¬ IsPrologueOf profile role prologue (take n (words_of bytes.now))) }
+    ensures refused { IfErr result (λ place. IsRefusedAt (IsPrologueOf profile role) (words_of bytes.now) place.word) }
+{
+    if !has_kind(role, bytes) {
+        return Err(Place { word: 0 });
+    }
+    read_prologue(profile, bytes)
+}
+
+// Whether the first word is the header of a packet of the kind that has the role.
+fn has_kind(role: Role, bytes: &[u8]) -> bool
+    ensures { IsTrue result ↔ (0 < length (words_of bytes.now)) × IsKind (kind_of role) (slice_index (words_of bytes.now) 0) }
+{
+    match word_at(bytes, 0) {
+        Some(word) => is_kind(role, word),
+        None => false,
+    }
+}
+
+// Whether the word has the packet type and the fixed bits of the kind that has the role.
+fn is_kind(role: Role, word: u32) -> bool
+    ensures { IsTrue result ↔ IsKind (kind_of role) word }
+{
+    if bits_of(word, 28, 4) != 6 || bits_of(word, 25, 1) != 0 {
+        return false;
+    }
+    match (role, bits_of(word, 26, 1), bits_of(word, 24, 1)) {
+        (Role::Control, 0, 0) | (Role::Cancel, 0, 1) | (Role::Ack, 1, _) => true,
+        _ => false,
+    }
+}
+
+// The mode word, the message identifier and the identities behind the prologue.
+fn read_behind(prologue: Prologue, role: Role, bytes: &[u8]) -> Result<CommandPrologue, Place>
+    requires { prologue_words prologue.header.timed ≤ length (words_of bytes.now) }
+    ensures found { IfOk result (λ front. (front.prologue ≡ prologue)
+        × (command_words front ≤ length (words_of bytes.now))
+        × IsBehind role front (take (2 + identity_words front.cam) (drop (prologue_words prologue.header.timed) (words_of bytes.now)))) }
+    ensures refused { IfErr result (λ place. (k : ℕ) × (place.word ≡ prologue_words prologue.header.timed + k)
+        × IsCutAt role prologue (drop (prologue_words prologue.header.timed) (words_of bytes.now)) k) }
+{
+    let at = prologue_size(prologue.header.timed);
+    let word = match word_or_place(bytes, at as u32) {
+        Ok(word) => word,
+        Err(place) => return Err(place),
+    };
+    let Some(cam) = mode_of(role, &prologue, word) else {
+        return Err(Place { word: at as u32 });
+    };
+    read_named(prologue, cam, bytes)
+}
+
+// The message identifier and the identities that the mode word announces.
+fn read_named(prologue: Prologue, cam: Cam, bytes: &[u8]) -> Result<CommandPrologue, Place>
+    requires controllee { cam.ie ≡ true → cam.ce ≡ true }
+    requires controller { cam.ir ≡ true → cam.cr ≡ true }
+    ensures found { IfOk result (λ front. (front.prologue ≡ prologue) × (front.cam ≡ cam)
+        × (prologue_words prologue.header.timed + 2 + identity_words cam ≤ length (words_of bytes.now))
+        × AreNamed front (drop (prologue_words prologue.header.timed + 1) (words_of bytes.now))) }
+    ensures short { IfErr result (λ place. (place.word ≡ length (words_of bytes.now))
+        × (length (words_of bytes.now) < prologue_words prologue.header.timed + 2 + identity_words cam)) }
+{
+    let at = prologue_size(prologue.header.timed) + 1;
+    if bytes.len() / 4 < at + 1 + identities_size(&cam) {
+        return Err(Place {
+            word: (bytes.len() / 4) as u32,
+        });
+    }
+    let message = word_or_place(bytes, at as u32)?;
+    let middle = at + 1 + identity_size(cam.ce, cam.ie);
+    Ok(CommandPrologue {
+        prologue,
+        cam,
+        message,
+        controllee: identity_at(bytes, at + 1, cam.ce, cam.ie),
+        controller: identity_at(bytes, middle, cam.cr, cam.ir),
+    })
+}
