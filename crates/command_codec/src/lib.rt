@@ -2,7 +2,21 @@
 #![tactic(auto)]
 
 mod cancel;
+mod cancel_reading;
+#[cfg(test)]
+mod cancel_tests;
+mod cancel_writing;
 mod control;
+mod control_reading;
+mod control_writing;
+mod round_trip;
+#[cfg(test)]
+mod tests;
 
 pub use crate::cancel::Cancel;
+pub use crate::cancel_reading::decode_cancel;
+pub use crate::cancel_writing::encode_cancel;
 pub use crate::control::Control;
+pub use crate::control_reading::decode_control;
+pub use crate::control_writing::encode_control;
+pub use crate::round_trip::one_to_one;

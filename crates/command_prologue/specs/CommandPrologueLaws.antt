@@ -373,7 +373,7 @@ module _ (profile : PacketProfile) (role : Role) where
       )
 
   -- words have one in front
-  one_in_front : (a b : CommandPrologue) (m n : ℕ) (words : List ℕ) → IsCommandPrologue profile role a (take m words) → IsCommandPrologue profile role b (take n words) → a ≡ b
+  pub one_in_front : (a b : CommandPrologue) (m n : ℕ) (words : List ℕ) → IsCommandPrologue profile role a (take m words) → IsCommandPrologue profile role b (take n words) → a ≡ b
   one_in_front a b m n words p q =
       let j = prologue_words a.prologue.header.timed in
       let k = prologue_words b.prologue.header.timed in
@@ -496,3 +496,17 @@ module _ (profile : PacketProfile) (role : Role) where
             (subst (λ i. IsPrologueOf profile role front.prologue (take i words)) e (subst (λ (q : Prologue). IsPrologueOf profile role q (take (prologue_words p.header.timed) words)) (sym same) is));
         behind = subst (IsBehind role front) (sym rest) (subst (λ i. IsBehind role front (take j (drop i words))) e behind);
       }
+
+  -- what begins with the words of one prologue has no other in front, and the rest stands behind it
+  pub one_before : (a b : CommandPrologue) (front behind : List ℕ) → IsCommandPrologue profile role a front
+      → IsCommandPrologue profile role b (take (command_words b) (front ++ behind)) → (b ≡ a) × (drop (command_words b) (front ++ behind) ≡ behind)
+  one_before a b front behind p q =
+      let all : take (length front) (front ++ behind) ≡ front = take_at front behind (length front) refl in
+      let same : b ≡ a = one_in_front b a (command_words b) (length front) (front ++ behind) q (subst (IsCommandPrologue profile role a) (sym all) p) in
+      let long : length front ≡ command_words b = command_length a front p ∙ ap command_words (sym same) in
+      (same, drop_at front behind (command_words b) long)
+
+  -- the size in the header leaves words that can stand behind it
+  pub content_left : (v : CommandPrologue) (words : List ℕ) → IsCommandPrologue profile role v words
+      → (content : ℕ) × ((v.prologue.header.size ≡ command_words v + content) × IsContentSize role v.cam content)
+  content_left v words h = (h.behind.mode.content, (h.behind.mode.size, h.behind.mode.allowed))

@@ -1,8 +1,9 @@
 -- The words that spell a prologue of the command family are one list.
-use Rattle.std.proofs.Common.{◌≡◌, ℕ, ◌+◌, ◌-◌, ◌^◌, ◌<◌, ◌≤◌, List, [], ◌∷◌, ◌++◌, length, take, drop, get_or, sym, ap, ◌∙◌, take-append-drop, length-append, append_assoc, arith}
+use Rattle.std.proofs.Common.{◌≡◌, ℕ, ◌+◌, ◌-◌, ◌*◌, ◌^◌, ◌<◌, ◌≤◌, List, [], ◌∷◌, ◌++◌, length, take, drop, get_or, sym, ap, ◌∙◌, take-append-drop, length-append, append_assoc, subst, arith}
 use Rattle.std.proofs.lemmas.List.{length-take-le, take_at, drop-drop}
-use Rattle.vrt_words.specs.Words.{AreWords}
-use Rattle.vrt_words.specs.WordLaws.{AreWords-take, AreWords-drop}
+use Rattle.vrt_words.specs.Words.{words_of, AreWords}
+use Rattle.vrt_words.specs.WordLaws.{words_of-take, AreWords-take, AreWords-drop}
+use Rattle.vrt_words.specs.Begins.{IsDatagram}
 use Rattle.vrt_header.specs.Profile.{PacketProfile}
 use Rattle.vrt_header.specs.Header.{prologue_words}
 use Rattle.vrt_header.specs.SpellingLaws.{one_front}
@@ -71,3 +72,13 @@ row_words profile role front words start word fit small spelled h e =
 pub named_sizes : (profile : PacketProfile) (role : Role) (front : CommandPrologue) (words : List ℕ) → IsCommandPrologue profile role front words
     → command_words front ≡ prologue_words front.prologue.header.timed + 2 + length (ident_words front.controllee) + length (ident_words front.controller)
 named_sizes profile role front words h = omega (arith, h.behind.controllee.size, h.behind.controller.size)
+
+-- bytes whose words in front are those of a packet have its datagram in front
+pub datagram_in_front : {V : Type 0} (IsPacket : V → List ℕ → Type 0) (v : V) (bytes words : List ℕ) (n : ℕ) → 4 * n ≤ length bytes → IsPacket v words
+    → length words ≡ n → take n (words_of bytes) ≡ words → IsDatagram IsPacket v (take (4 * n) bytes)
+datagram_in_front IsPacket v bytes words n there is all e =
+    let same : words_of (take (4 * n) bytes) ≡ words = words_of-take n bytes ∙ e in
+    record {
+      whole = length-take-le (4 * n) bytes there ∙ ap (λ i. 4 * i) (sym all) ∙ sym (ap (λ xs. 4 * length xs) same);
+      packet = subst (IsPacket v) (sym same) is;
+    }

@@ -10,6 +10,8 @@ mod prologue;
 mod reading;
 mod round_trip;
 mod spelling;
+#[cfg(test)]
+mod tests;
 
 pub use crate::length::check_size;
 pub use crate::prologue::CommandPrologue;

@@ -1,3 +1,7 @@
+ghost use Rattle.std.specs.Prelude.{◌≡◌, ◌≤◌};
+ghost use Rattle.command_prologue.specs.CommandPrologue.{command_words};
+
+use crate::mode::{identities_size, prologue_size};
 use cam_field::{Cam, Ident};
 use vrt_header::Prologue;
 
@@ -13,4 +17,15 @@ pub struct CommandPrologue {
     pub controllee: Ident,
     /// The identity of the controller, where bit 29 of the mode word announces one.
     pub controller: Ident,
+}
+
+impl CommandPrologue {
+    /// How many words it takes, 6 to 17.
+    #[inline]
+    pub fn words(&self) -> usize
+        ensures number { result ≡ command_words self.now }
+        ensures most { result ≤ 17 }
+    {
+        prologue_size(self.prologue.header.timed) + 2 + identities_size(&self.cam)
+    }
 }

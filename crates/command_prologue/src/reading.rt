@@ -12,8 +12,8 @@ use crate::identity::{identity_at, identity_size};
 use crate::mode::{identities_size, mode_of, prologue_size};
 use crate::prologue::CommandPrologue;
 use cam_field::{Cam, Role};
-use vrt_header::{Profile, Prologue, read_prologue};
-use vrt_words::{Place, bits_of, word_at, word_or_place};
+use vrt_header::{Kind, Profile, Prologue, kind_of, read_prologue};
+use vrt_words::{Place, word_at, word_or_place};
 
 /// The prologue with which a packet of this role begins. What stands behind it is not judged, but
 /// the size in the header has to leave words that can stand there.
@@ -61,15 +61,14 @@ fn has_kind(role: Role, bytes: &[u8]) -> bool
     }
 }
 
-// Whether the word has the packet type and the fixed bits of the kind that has the role.
+// Whether the word is the header of a packet of the kind that has the role.
 fn is_kind(role: Role, word: u32) -> bool
     ensures { IsTrue result ↔ IsKind (kind_of role) word }
 {
-    if bits_of(word, 28, 4) != 6 || bits_of(word, 25, 1) != 0 {
-        return false;
-    }
-    match (role, bits_of(word, 26, 1), bits_of(word, 24, 1)) {
-        (Role::Control, 0, 0) | (Role::Cancel, 0, 1) | (Role::Ack, 1, _) => true,
+    match (role, kind_of(word)) {
+        (Role::Control, Some(Kind::Control))
+        | (Role::Cancel, Some(Kind::Cancel))
+        | (Role::Ack, Some(Kind::Ack)) => true,
         _ => false,
     }
 }

@@ -53,6 +53,9 @@ module _ (i : ℕ) (field : Field) (h : i < 12) (e : field ≡ get_or fields_in_
       ap (λ l. sum_by (λ f. bit_in cif0 f * width_of f) l) next_field
       ∙ sum_by-cons (λ f. bit_in cif0 f * width_of f) field (drop (i + 1) fields_in_order)
 
+  pub number_next : (cif0 : ℕ) → sum_by (λ f. bit_in cif0 f) (drop i fields_in_order) ≡ bit_in cif0 field + sum_by (λ f. bit_in cif0 f) (drop (i + 1) fields_in_order)
+  number_next cif0 = ap (λ l. sum_by (λ f. bit_in cif0 f) l) next_field ∙ sum_by-cons (λ f. bit_in cif0 f) field (drop (i + 1) fields_in_order)
+
   pub bits_next : (cif0 : ℕ) → sum_by (λ f. bit_in cif0 f * 2 ^ bit_of f) (drop i fields_in_order)
       ≡ bit_in cif0 field * 2 ^ bit_of field + sum_by (λ f. bit_in cif0 f * 2 ^ bit_of f) (drop (i + 1) fields_in_order)
   bits_next cif0 =
@@ -72,6 +75,9 @@ words_end i values e = ap (λ n. words_with (drop n fields_in_order) (drop n val
 
 pub width_end : (cif0 i : ℕ) → i ≡ 12 → sum_by (λ f. bit_in cif0 f * width_of f) (drop i fields_in_order) ≡ 0
 width_end cif0 i e = ap (λ n. sum_by (λ f. bit_in cif0 f * width_of f) (drop n fields_in_order)) e
+
+pub number_end : (cif0 i : ℕ) → i ≡ 12 → sum_by (λ f. bit_in cif0 f) (drop i fields_in_order) ≡ 0
+number_end cif0 i e = ap (λ n. sum_by (λ f. bit_in cif0 f) (drop n fields_in_order)) e
 
 pub bits_end : (cif0 i : ℕ) → i ≡ 12 → sum_by (λ f. bit_in cif0 f * 2 ^ bit_of f) (drop i fields_in_order) ≡ 0
 bits_end cif0 i e = ap (λ n. sum_by (λ f. bit_in cif0 f * 2 ^ bit_of f) (drop n fields_in_order)) e

@@ -1,6 +1,7 @@
 -- Laws of field sets: CIF0 and the words determine a set, and a set CIF0 and its words.
 use Rattle.std.proofs.Common.{◌≡◌, ℕ, zero, suc, ◌+◌, ◌-◌, ◌*◌, ◌/◌, ◌%◌, ◌^◌, ◌<◌, ◌≤◌, List, [], ◌∷◌, ◌++◌, length, take, drop, sum_by, Option, Some, None, IfSome, refl, sym, ap, ◌∙◌, subst, lit<, arith, length-append, length-drop, take-add}
 use Rattle.std.proofs.lemmas.List.Sums.{sum_by-cons}
+use Rattle.std.proofs.lemmas.List.{take_all}
 use Rattle.std.proofs.Math.Pow.{pow_mono, pow_pos}
 use Rattle.std.proofs.Math.Seq.{drop-append_seam}
 use Rattle.std.proofs.lemmas.Nat.{div-mul-add, pow-add}
@@ -364,3 +365,16 @@ one_set set other p q mask words =
     ∙ ap (λ n. values_in n fields_in_order (words_of_set set)) mask
     ∙ ap (λ l. values_in (mask_of other) fields_in_order l) words
     ∙ set_again other q
+
+-- a mask of fields and as many words as these take are those of a set
+pub set_of_words : (mask : ℕ) (words : List ℕ) → IsFieldMask mask → AreWords words → length words ≡ width_of_mask mask
+    → (set : FieldValues) × (IsFieldSet set × (mask_of set ≡ mask) × (words_of_set set ≡ words))
+set_of_words mask words only fit all =
+    let set = values_in mask fields_in_order words in (
+      set,
+      (
+        AllFit-IsFieldSet set (fits_read mask fields_in_order words fit),
+        mask_read mask fields_in_order words ∙ sym only,
+        words_read mask fields_in_order words fit (omega arith) ∙ take_all (width_of_mask mask) words (omega arith),
+      ),
+    )

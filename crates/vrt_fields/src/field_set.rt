@@ -4,7 +4,7 @@ ghost use Rattle.vrt_fields.specs.Field.{width_of};
 ghost use Rattle.vrt_fields.specs.FieldSet.{FieldValues, IsFieldSet, FitsField, value_of, no_fields, mask_of, words_of_set, IsFieldMask, width_of_mask};
 
 use crate::field::Field;
-use crate::values::{index, mask, spell, take_values, width};
+use crate::values::{index, mask, mask_width, spell, take_values};
 use std::marker::Model;
 use vrt_words::{put_words, read_words};
 
@@ -97,7 +97,7 @@ impl FieldSet {
             → words_of_set other ≡ take (width_of_mask cif0) (drop at (words_of bytes.now)) → result ≡ other }
     {
         let mut words = [0; MOST];
-        let width = width(cif0);
+        let width = mask_width(cif0);
         read_words(bytes, at, &mut words[..width]);
         FieldSet {
             values: take_values(cif0, &words[..width]),

@@ -22,4 +22,4 @@ pub use crate::limit::Limit;
 pub use crate::round_trip::{one_set_for_words, written_and_read};
 pub use crate::route::Route;
 pub use crate::text::text_of;
-pub use crate::values::is_field_mask;
+pub use crate::values::{is_field_mask, mask_number, mask_width};

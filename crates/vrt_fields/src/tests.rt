@@ -97,6 +97,16 @@ fn a_mask_has_bits_of_fields_alone(rt: HostRuntime) {
     assert_eq!(rt; is_field_mask(0x0400_0000), false);
 }
 
+#[test]
+fn a_mask_tells_its_fields_and_their_words(rt: HostRuntime) {
+    assert_eq!(rt;
+        (mask_number(0x7BB9_8000), mask_width(0x7BB9_8000)),
+        (12, 19)
+    );
+    assert_eq!(rt; (mask_number(0x0880_0000), mask_width(0x0880_0000)), (2, 3));
+    assert_eq!(rt; (mask_number(0), mask_width(0)), (0, 0));
+}
+
 // Whether the text of a field is this, behind what was there.
 fn is_text(alloc: Global, field: Field, value: u64, wanted: &[u8]) -> Result<bool, NoMemory>
     requires { width_of field ≡ 1 → value < 2 ^ 32 }

@@ -1,7 +1,7 @@
 ghost use Rattle.std.specs.Prelude.{◌≡◌, ◌≤◌, ◌<◌, ◌+◌, ◌*◌, ◌^◌, ◌++◌, ◌↔◌, IsTrue, length, take, drop, slice_index_or, IfSome};
 ghost use Rattle.vrt_fields.specs.declared.field.Field.TheVariants.{ReferencePoint};
 ghost use Rattle.vrt_fields.specs.Field.{bit_of, width_of, fields_in_order};
-ghost use Rattle.vrt_fields.specs.FieldSet.{FieldValues, IsFieldSet, FitsField, index_of, bit_if, words_of_value, mask_with, mask_of, words_if, words_with, words_of_set, bit_in, IsFieldMask, width_of_mask};
+ghost use Rattle.vrt_fields.specs.FieldSet.{FieldValues, IsFieldSet, FitsField, index_of, bit_if, words_of_value, mask_with, mask_of, words_if, words_with, words_of_set, bit_in, IsFieldMask, width_of_mask, number_in_mask};
 ghost use Rattle.vrt_fields.specs.Values.{number_in, first_value, taken};
 
 use crate::field::Field;
@@ -92,8 +92,8 @@ fn bit_under(cif0: u32, field: Field) -> u32
     bits_of(cif0, field.bit(), 1) << field.bit()
 }
 
-/// How many words the fields of `cif0` take.
-pub(crate) fn width(cif0: u32) -> usize
+/// How many words the fields take whose bits `cif0` has, 0 to 19.
+pub fn mask_width(cif0: u32) -> usize
     ensures number { result ≡ width_of_mask cif0 }
     ensures most { result ≤ 19 }
 {
@@ -102,6 +102,26 @@ pub(crate) fn width(cif0: u32) -> usize
         width += width_where(cif0, field_at(index));
     }
     width
+}
+
+/// How many fields have their bits in `cif0`, 0 to 12.
+pub fn mask_number(cif0: u32) -> usize
+    ensures number { result ≡ number_in_mask cif0 }
+    ensures most { result ≤ 12 }
+{
+    let mut number = 0;
+    for index in 0..12 {
+        number += count_under(cif0, field_at(index));
+    }
+    number
+}
+
+// 1 where `cif0` has the bit of a field, else 0.
+fn count_under(cif0: u32, field: Field) -> usize
+    ensures number { result ≡ bit_in cif0 field }
+    ensures most { result ≤ 1 }
+{
+    bits_of(cif0, field.bit(), 1) as usize
 }
 
 // How many words a field takes under `cif0`.

@@ -41,8 +41,9 @@ pub struct Header {
     pub size: u16,
 }
 
-// The kind that a header word tells, with the bits that are fixed for it.
-fn kind_of(word: u32) -> Option<Kind>
+/// The kind that a header word tells, with the bits that are fixed for it. `None` exactly where the
+/// word has the packet type or the bits of none.
+pub fn kind_of(word: u32) -> Option<Kind>
     ensures found { IfSome result (λ kind. IsKind kind word) }
     ensures only { (kind : Kind) → IsKind kind word → result ≡ Some kind }
 {

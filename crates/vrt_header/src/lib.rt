@@ -10,7 +10,7 @@ mod spelling;
 #[cfg(test)]
 mod tests;
 
-pub use crate::header::{Header, Kind};
+pub use crate::header::{Header, Kind, kind_of};
 pub use crate::profile::Profile;
 pub use crate::prologue::{Prologue, read_prologue};
 pub use crate::round_trip::one_to_one;

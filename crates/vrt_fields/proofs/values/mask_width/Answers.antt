@@ -1,7 +1,7 @@
 use Rattle.std.proofs.Common.{arith}
 use Rattle.vrt_fields.specs.Field.{fields_in_order}
 use Rattle.vrt_fields.proofs.Steps.{width_next, width_most, all_widths, width_end}
-use Rattle.vrt_fields.proofs.values.width.Goals as goal
+use Rattle.vrt_fields.proofs.values.mask_width.Goals as goal
 
 pub overflow_add-width : goal.overflow_add-width
 overflow_add-width c =

@@ -1,7 +1,7 @@
 use Rattle.std.proofs.Common.{◌≡◌, ◌+◌, ◌*◌, drop, sum_by}
 use Rattle.vrt_fields.specs.Field.{width_of, fields_in_order}
 use Rattle.vrt_fields.specs.FieldSet.{bit_in, width_of_mask}
-use Rattle.vrt_fields.proofs.values.width.Given as goal
+use Rattle.vrt_fields.proofs.values.mask_width.Given as goal
 
 -- the widths of the fields in front are there, and those of the others are to come
 abbrev pub invariant-loop-index : goal.invariant-loop-index

@@ -1,0 +1,84 @@
+use super::*;
+use cam_field::{Ident, Role};
+use vrt_header::Profile;
+use vrt_words::{Place, put_words};
+
+// A command with a word for its controllee and a UUID for its controller.
+const COMMAND: [u32; 15] = [
+    0x6800000F, 1, 0x006A621E, 0, 0xB1080000, 9, 7, 21, 22, 23, 24, 0x00A00000, 0x600, 0,
+    0x00100000,
+];
+
+// The words as bytes.
+fn bytes_of(words: &[u32; 15]) -> [u8; 60] {
+    let mut bytes = [0; 60];
+    put_words(&mut bytes, 0, words);
+    bytes
+}
+
+// The place at which the words are refused in a role, if they are.
+fn refused_at(profile: Profile, role: Role, words: &[u32; 15]) -> Option<u32> {
+    match read_command_prologue(profile, role, &bytes_of(words)) {
+        Ok(_) => None,
+        Err(Place { word }) => Some(word),
+    }
+}
+
+// What is written of the prologue that is read.
+fn written_again(profile: Profile, bytes: &[u8]) -> [u8; 60] {
+    let mut written = [0; 60];
+    if let Ok(front) = read_command_prologue(profile, Role::Control, bytes) {
+        if front.words() <= 15 {
+            write_command_prologue(profile, Role::Control, &front, &mut written);
+        }
+    }
+    written
+}
+
+#[test]
+fn a_prologue_is_read_and_written_again(rt: HostRuntime) {
+    let profile = Profile::of(0x6A_621E, 1).expect(&rt, "a profile");
+    let mut bytes = bytes_of(&COMMAND);
+    let written = written_again(profile, &bytes);
+    bytes[44..].fill(0);
+    assert!(rt; written == bytes);
+}
+
+#[test]
+fn the_parts_of_a_prologue_are_told(rt: HostRuntime) {
+    let profile = Profile::of(0x6A_621E, 1).expect(&rt, "a profile");
+    match read_command_prologue(profile, Role::Control, &bytes_of(&COMMAND)) {
+        Ok(front) => {
+            assert_eq!(rt; front.words(), 11);
+            assert_eq!(rt; front.message, 9);
+            assert!(rt; front.controllee == Ident::Word(7));
+            assert!(rt; front.controller == Ident::Uuid([21, 22, 23, 24]));
+        }
+        Err(_) => assert!(rt; false, "refused"),
+    }
+}
+
+#[test]
+fn a_prologue_is_refused_at_its_first_wrong_word(rt: HostRuntime) {
+    let profile = Profile::of(0x6A_621E, 1).expect(&rt, "a profile");
+    assert_eq!(rt; refused_at(profile, Role::Control, &COMMAND), None);
+    assert_eq!(rt; refused_at(profile, Role::Cancel, &COMMAND), Some(0));
+    assert_eq!(rt; refused_at(profile, Role::Ack, &COMMAND), Some(0));
+    // Two UUIDs, and 7 words less than the prologue would then have; another class identifier.
+    let mut words = COMMAND;
+    words[0] = 0x6800000A;
+    words[4] = 0xF1080000;
+    assert_eq!(rt; refused_at(profile, Role::Control, &words), Some(4));
+    let mut class = COMMAND;
+    class[2] = 0x006A621F;
+    assert_eq!(rt; refused_at(profile, Role::Control, &class), Some(2));
+}
+
+#[test]
+fn a_length_is_that_of_the_size_or_refused(rt: HostRuntime) {
+    let bytes = [0; 60];
+    assert!(rt; check_size(&bytes, 15) == Ok(()));
+    assert!(rt; check_size(&bytes, 16) == Err(Place { word: 15 }));
+    assert!(rt; check_size(&bytes, 14) == Err(Place { word: 14 }));
+    assert!(rt; check_size(&bytes[..59], 15) == Err(Place { word: 14 }));
+}
