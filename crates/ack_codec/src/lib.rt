@@ -2,6 +2,7 @@
 #![tactic(auto)]
 
 mod ack;
+mod mask;
 mod responses;
 
 pub use crate::ack::{Ack, AckReport, AckState};
