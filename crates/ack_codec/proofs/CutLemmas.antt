@@ -1,12 +1,14 @@
 -- Where the content of an acknowledgement ends or goes wrong: at a mask, or where its length goes wrong.
-use Rattle.std.proofs.Common.{◌≡◌, ◌≢◌, ℕ, zero, suc, ◌+◌, ◌-◌, ◌*◌, ◌<◌, ◌≤◌, List, [], ◌∷◌, length, take, drop, get_or, min, refl, sym, ap, ◌∙◌, subst, length-drop, add-zero, arith}
-use Rattle.std.proofs.lemmas.List.{length-take, length-take-le, get_or-drop, drop_more}
+use Rattle.std.proofs.Common.{Bool, true, false, None, ◌≡◌, ◌≢◌, ℕ, zero, suc, ◌+◌, ◌-◌, ◌*◌, ◌<◌, ◌≤◌, List, [], ◌∷◌, ◌++◌, length, take, drop, get_or, min, refl, sym, ap, ◌∙◌, subst, length-drop, add-zero, take-append-drop, arith}
+use Rattle.std.proofs.lemmas.List.{length-take, length-take-le, get_or-drop, drop_more, drop-drop, take_all, nil_from_length}
 use Rattle.vrt_words.specs.Words.{words_of}
 use Rattle.vrt_words.specs.WordLaws.{length-words_of}
 use Rattle.vrt_fields.specs.FieldSet.{IsFieldMask, number_in_mask}
+use Rattle.cam_field.specs.Spelling.{bit_of}
+use Rattle.command_prologue.specs.CommandPrologue.{IsAnswerSize}
 use Rattle.command_prologue.specs.Growing.{IsStoppedAt}
 use Rattle.command_prologue.specs.Sizes.{IsOtherSize}
-use Rattle.ack_codec.specs.Steps.{IsBegunOne, IsBegunTwo, IsBegunNone, IsCutAt, IsMaskAt}
+use Rattle.ack_codec.specs.Steps.{IsBegunOne, IsBegunTwo, IsBegunNone, IsBegunReport, IsCutAt, IsMaskAt, AreReadAt}
 
 -- ---- without a mask
 
@@ -160,3 +162,46 @@ module _ (at size : ℕ) (bytes : List ℕ) (inside : at ≤ length (words_of by
             (stopped_two (size - at) first second (drop (at + 1 + 1) words) j is.only is'.only sum (omega arith) (omega arith) (λ h. omega arith));
         unfinished = λ h. other.other;
       }
+
+-- ---- a whole content
+
+-- a mask and all the words behind it
+pub whole_one : (words listed : List ℕ) (at mask n : ℕ) → IsMaskAt words at mask → length words ≡ at + 1 + n → listed ≡ take n (drop (at + 1) words)
+    → drop at words ≡ mask ∷ listed
+whole_one words listed at mask n is size e =
+    let rest = length-drop (at + 1) words in
+    from_mask words at mask is ∙ ap (λ xs. mask ∷ xs) (sym (take_all n (drop (at + 1) words) (omega arith)) ∙ sym e)
+
+-- two masks, and all the words behind them in two parts
+pub whole_two : (words a b : List ℕ) (at first second m n : ℕ) → IsMaskAt words at first → IsMaskAt words (at + 1) second → length words ≡ at + 2 + m + n
+    → a ≡ take m (drop (at + 2) words) → b ≡ take n (drop (at + 2 + m) words) → drop at words ≡ first ∷ second ∷ (a ++ b)
+whole_two words a b at first second m n is is' size e f =
+    let rest = drop (at + 2) words in
+    let two : at + 1 + 1 ≡ at + 2 = omega arith in
+    let last = length-drop (at + 2 + m) words in
+    let tail : b ≡ drop m rest = f ∙ take_all n (drop (at + 2 + m) words) (omega arith) ∙ sym (drop-drop m (at + 2) words) in
+    from_both words at first second is is'
+    ∙ ap (λ i. first ∷ second ∷ drop i words) two
+    ∙ ap (λ xs. first ∷ second ∷ xs) (sym (take-append-drop m rest) ∙ ap (λ xs. xs ++ drop m rest) (sym e) ∙ ap (λ xs. a ++ xs) (sym tail))
+
+-- where neither warnings nor errors are announced, no word is left
+pub read_none : (warned erred : Bool) (at size : ℕ) (bytes : List ℕ) → warned ≡ false → erred ≡ false → at ≤ size
+    → IsAnswerSize false (bit_of warned + bit_of erred) (size - at) → length bytes ≡ 4 * size → AreReadAt warned erred at size bytes None None
+read_none true erred at size bytes e f inside allowed whole = absurd (cc)
+read_none false true at size bytes e f inside allowed whole = absurd (cc)
+read_none false false at size bytes e f inside allowed whole =
+    let all = length-drop at (words_of bytes) in
+    record {
+      told_warnings = tt;
+      told_errors = tt;
+      all = nil_from_length (drop at (words_of bytes)) (omega (arith, allowed.1, length-words_of bytes));
+      whole = whole;
+    }
+
+pub cut_unannounced : (warned erred : Bool) (at size : ℕ) (bytes : List ℕ) (place : ℕ) → warned ≡ false → erred ≡ false → at ≤ size → at ≤ length (words_of bytes)
+    → IsAnswerSize false (bit_of warned + bit_of erred) (size - at) → IsOtherSize size bytes place
+    → IsCutAt (IsBegunReport warned erred (size - at)) at size bytes place
+cut_unannounced true erred at size bytes place e f inside there allowed other = absurd (cc)
+cut_unannounced false true at size bytes place e f inside there allowed other = absurd (cc)
+cut_unannounced false false at size bytes place e f inside there allowed other =
+    cut_none at size bytes there inside (size - at) place (omega (arith, allowed.1)) other

@@ -1,5 +1,5 @@
 -- One more field of those in order, and of the words that stand beside them.
-use Rattle.std.proofs.Common.{◌≡◌, ℕ, zero, suc, ◌+◌, ◌*◌, ◌<◌, ◌≤◌, List, [], ◌∷◌, ◌++◌, length, take, drop, get_or, sum_by, refl, sym, ap, ◌∙◌, append_assoc, append-nil, arith}
+use Rattle.std.proofs.Common.{◌≡◌, ℕ, zero, suc, ◌+◌, ◌*◌, ◌<◌, ◌≤◌, List, [], ◌∷◌, ◌++◌, length, take, drop, get_or, sum_by, refl, sym, ap, ◌∙◌, append_assoc, append-nil, length-append, arith}
 use Rattle.std.proofs.Math.ListN.{set}
 use Rattle.std.proofs.Math.Seq.{take-suc-set}
 use Rattle.std.proofs.lemmas.List.{drop_more, take_all}
@@ -10,6 +10,7 @@ use Rattle.vrt_fields.specs.Field.{width_of, fields_in_order}
 use Rattle.vrt_fields.specs.FieldSet.{bit_in, width_of_mask}
 use Rattle.vrt_fields.specs.Values.{taken}
 use Rattle.ack_codec.specs.Responses.{word_if, listed_with}
+use Rattle.ack_codec.specs.ResponseLaws.{length-word_if}
 use Rattle.ack_codec.specs.Steps.{first_response, responses_in}
 
 -- one step, at the field with the number i
@@ -85,3 +86,23 @@ all_widths = refl
 
 pub widest : (mask : ℕ) → width_of_mask mask ≤ 19
 widest mask = omega (arith, width_most mask fields_in_order, all_widths)
+
+-- at most a word for each field is listed
+listed_at_most : (mask : ℕ) (fields : List Field) (words : List ℕ) → length (listed_with mask fields words) ≤ length fields
+listed_at_most mask [] words = omega arith
+listed_at_most mask (field ∷ fields) [] = omega arith
+listed_at_most mask (field ∷ fields) (word ∷ words) =
+    omega (
+      arith,
+      listed_at_most mask fields words,
+      length-word_if (bit_in mask field) word (omega arith),
+      length-append (word_if (bit_in mask field) word) (listed_with mask fields words),
+    )
+
+pub listed_most : (mask : ℕ) (words : List ℕ) → length (listed_with mask fields_in_order words) ≤ 12
+listed_most mask words = listed_at_most mask fields_in_order words
+
+-- the words of one more field, behind those that are written
+pub words_written : (done own rest : List ℕ) (count next : ℕ) (all : List ℕ) → take count done ++ (own ++ rest) ≡ all
+    → (later : List ℕ) → take next later ≡ take count done ++ own → take next later ++ rest ≡ all
+words_written done own rest count next all e later f = ap (λ l. l ++ rest) f ∙ append_assoc (take count done) own rest ∙ e

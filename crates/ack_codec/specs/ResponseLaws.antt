@@ -12,7 +12,7 @@ use Rattle.ack_codec.specs.Steps.{first_response, responses_in}
 bit_cases : (mask : ℕ) (field : Field) → bit_in mask field < 2
 bit_cases mask field = omega arith
 
-length-word_if : (bit word : ℕ) → bit < 2 → length (word_if bit word) ≡ bit
+pub length-word_if : (bit word : ℕ) → bit < 2 → length (word_if bit word) ≡ bit
 length-word_if zero word h = refl
 length-word_if (suc zero) word h = refl
 length-word_if (suc (suc n)) word h = absurd (omega arith)

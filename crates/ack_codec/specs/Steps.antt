@@ -1,7 +1,7 @@
 -- What goes on behind the identities of an acknowledgement; it serves the proofs of the refused place.
 use Rattle.std.specs.Prelude.{◌≡◌, ◌≢◌, ℕ, ◌+◌, ◌-◌, ◌*◌, ◌<◌, ◌≤◌, ◌==◌, if◌then◌else◌, Bool, true, false, List, [], ◌∷◌, length, drop, slice_index, Option}
 use Rattle.vrt_words.specs.Words.{words_of}
-use Rattle.vrt_fields.specs.FieldSet.{IsFieldMask, width_of_mask, number_in_mask, bit_in}
+use Rattle.vrt_fields.specs.FieldSet.{IsFieldMask, width_of_mask, number_in_mask, bit_in, mask_of, words_of_set}
 use Rattle.vrt_fields.specs.declared.field.Field.{Field}
 use Rattle.cam_field.specs.Cam.{IsForRole}
 use Rattle.cam_field.specs.declared.modes.Role.TheVariants as roles
@@ -11,6 +11,8 @@ use Rattle.command_prologue.specs.declared.prologue.CommandPrologue.{CommandProl
 use Rattle.ack_codec.specs.Ack.{front_of, kind_bit, AreAnnounced, report_words, IsContent}
 use Rattle.ack_codec.specs.declared.responses.Responses.{Responses}
 use Rattle.ack_codec.specs.declared.ack.Ack.{Ack}
+use Rattle.ack_codec.specs.declared.ack.Ack.TheVariants.{V, X, S}
+use Rattle.ack_codec.specs.declared.ack.AckReport.{AckReport}
 
 -- the words that the size leaves for the content
 abbrev pub left_of : CommandPrologue → ℕ
@@ -79,6 +81,27 @@ pub record AreReadAt (warned erred : Bool) (at size : ℕ) (bytes : List ℕ) (w
   pub told_errors : AreAnnounced erred errors
   pub all : drop at (words_of bytes) ≡ report_words warnings errors
   pub whole : length bytes ≡ 4 * size
+
+-- a report with this front, of the kind that its mode word tells
+abbrev pub report_with : CommandPrologue → Option Responses → Option Responses → AckReport
+report_with front warnings errors = record {
+  prologue = front.prologue;
+  cam = front.cam;
+  message = front.message;
+  controllee = front.controllee;
+  controller = front.controller;
+  warnings = warnings;
+  errors = errors;
+}
+
+abbrev pub told_of : CommandPrologue → Option Responses → Option Responses → Ack
+told_of front warnings errors = if front.cam.v then V (report_with front warnings errors) else X (report_with front warnings errors)
+
+-- the words behind the identities
+abbrev pub content_words : Ack → List ℕ
+content_words (V report) = report_words report.warnings report.errors
+content_words (X report) = report_words report.warnings report.errors
+content_words (S state) = mask_of state.fields ∷ words_of_set state.fields
 
 -- the response to a field in the first of the words, where its bit is set
 abbrev pub first_response : ℕ → List ℕ → ℕ

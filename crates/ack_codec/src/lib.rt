@@ -2,8 +2,15 @@
 #![tactic(auto)]
 
 mod ack;
+mod listing;
 mod mask;
+mod reading;
 mod responses;
+mod round_trip;
+mod spelling;
 
 pub use crate::ack::{Ack, AckReport, AckState};
+pub use crate::reading::decode_ack;
 pub use crate::responses::Responses;
+pub use crate::round_trip::one_to_one;
+pub use crate::spelling::encode_ack;
