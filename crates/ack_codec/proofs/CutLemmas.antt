@@ -1,5 +1,5 @@
 -- Where the content of an acknowledgement ends or goes wrong: at a mask, or where its length goes wrong.
-use Rattle.std.proofs.Common.{Bool, true, false, None, ◌≡◌, ◌≢◌, ℕ, zero, suc, ◌+◌, ◌-◌, ◌*◌, ◌<◌, ◌≤◌, List, [], ◌∷◌, ◌++◌, length, take, drop, get_or, min, refl, sym, ap, ◌∙◌, subst, length-drop, add-zero, take-append-drop, arith}
+use Rattle.std.proofs.Common.{Bool, true, false, None, ◌≡◌, ◌≢◌, ℕ, suc, ◌+◌, ◌-◌, ◌*◌, ◌<◌, ◌≤◌, List, [], ◌∷◌, ◌++◌, length, take, drop, get_or, min, refl, sym, ap, ◌∙◌, subst, length-drop, add-zero, take-append-drop, arith}
 use Rattle.std.proofs.lemmas.List.{length-take, length-take-le, get_or-drop, drop_more, drop-drop, take_all, nil_from_length}
 use Rattle.vrt_words.specs.Words.{words_of}
 use Rattle.vrt_words.specs.WordLaws.{length-words_of}

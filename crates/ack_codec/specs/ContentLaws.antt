@@ -1,31 +1,15 @@
 -- Laws of the content of acknowledgements: words are one content at most.
-use Rattle.std.proofs.Common.{◌≡◌, ◌≢◌, ℕ, zero, suc, ◌+◌, ◌-◌, ◌*◌, ◌^◌, ◌<◌, ◌≤◌, ◌⊎◌, inl, inr, Bool, true, false, List, [], ◌∷◌, ◌++◌, length, take, drop, get_or, Option, Some, None, Result, Ok, Err, IfOk, IfErr, refl, sym, ap, ◌∙◌, subst, append-nil, length-append, length-drop, take-append-drop, arith}
-use Rattle.std.proofs.lemmas.Bool.{cases_lt}
-use Rattle.std.proofs.lemmas.List.{length-take, length-take-le, take_at, drop_at, take_all}
-use Rattle.vrt_words.specs.Words.{words_of, AreWords, AreBytes}
-use Rattle.vrt_words.specs.Begins.{IsDatagram, IsRefused, IsRefusedAt}
-use Rattle.vrt_words.specs.WordLaws.{length-words_of}
-use Rattle.vrt_words.specs.declared.place.Place.{Place}
-use Rattle.vrt_header.specs.Profile.{PacketProfile}
-use Rattle.vrt_fields.specs.Field.{fields_in_order}
-use Rattle.vrt_fields.specs.FieldSet.{FieldValues, IsFieldSet, IsFieldMask, mask_of, words_of_set, width_of_mask, number_in_mask}
-use Rattle.vrt_fields.specs.FieldSetLaws.{AllFit-IsFieldSet, fits_read, mask_read, words_read, one_set, mask_is_of_fields, width_is_of_fields}
-use Rattle.vrt_fields.specs.MaskLaws.{mask_of_width, mask_of_number}
-use Rattle.vrt_fields.specs.Values.{values_in}
+use Rattle.std.proofs.Common.{◌≡◌, ℕ, inl, inr, Bool, true, false, List, ◌∷◌, ◌++◌, length, Option, Some, None, refl, sym, ap, ◌∙◌, subst, append-nil, arith}
+use Rattle.vrt_fields.specs.FieldSet.{mask_of, words_of_set, number_in_mask}
+use Rattle.vrt_fields.specs.FieldSetLaws.{one_set}
 use Rattle.cam_field.specs.Cam.{IsForRole}
-use Rattle.cam_field.specs.Spelling.{bit_of}
 use Rattle.cam_field.specs.declared.cam.Cam.{Cam}
 use Rattle.cam_field.specs.declared.modes.Role.TheVariants as roles
-use Rattle.command_prologue.specs.CommandPrologue.{IsCommandPrologue, IsAnswerSize, IsContentSize, command_words}
-use Rattle.command_prologue.specs.CommandPrologueLaws.{one_answer, command_length, split_row, same_head}
-use Rattle.command_prologue.specs.Growing.{AreGrown, IsStoppedAt}
-use Rattle.command_prologue.specs.GrowingLaws.{refused_datagram, refused_datagram_in_front}
-use Rattle.command_prologue.specs.Sizes.{IsOtherSize}
+use Rattle.command_prologue.specs.CommandPrologueLaws.{split_row, same_head}
 use Rattle.command_prologue.specs.declared.prologue.CommandPrologue.{CommandPrologue}
 use Rattle.ack_codec.specs.Responses.{AreResponses, listed_words}
-use Rattle.ack_codec.specs.ResponseLaws.{one_responses, responses_under, responses_read, listed_read, length-listed_words, at_most_twelve}
-use Rattle.ack_codec.specs.Ack.{front_of, front_of_report, front_of_state, kind_bit, AreAnnounced, report_words, IsReport, IsState, IsContent, IsAck}
-use Rattle.ack_codec.specs.Steps.{left_of, IsAckFront, IsBegunOne, IsBegunTwo, IsBegunNone, IsBegunReport, IsBegunKind, IsBegun, IsCutAt}
+use Rattle.ack_codec.specs.ResponseLaws.{one_responses, length-listed_words}
+use Rattle.ack_codec.specs.Ack.{front_of, front_of_report, front_of_state, kind_bit, AreAnnounced, report_words, IsReport, IsState, IsContent}
 use Rattle.ack_codec.specs.declared.responses.Responses.{Responses}
 use Rattle.ack_codec.specs.declared.ack.Ack.{Ack}
 use Rattle.ack_codec.specs.declared.ack.Ack.TheVariants.{V, X, S}
@@ -44,12 +28,6 @@ pub kind_x : (cam : Cam) → IsForRole roles.Ack cam → cam.x ≡ true → (cam
 kind_x cam (inl a) e = absurd (cc (a.kind.x))
 kind_x cam (inr (inl b)) e = (b.v, b.s)
 kind_x cam (inr (inr c)) e = absurd (cc (c.kind.x))
-
--- without v and s there is x
-pub kind_other : (cam : Cam) → IsForRole roles.Ack cam → cam.v ≡ false → cam.s ≡ false → cam.x ≡ true
-kind_other cam (inl a) e f = absurd (cc (a.kind.v))
-kind_other cam (inr (inl b)) e f = b.x
-kind_other cam (inr (inr c)) e f = absurd (cc (c.kind.s))
 
 -- ---- responses that are announced
 

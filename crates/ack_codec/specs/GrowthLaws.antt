@@ -1,35 +1,27 @@
 -- Laws of how a content goes on: behind each of its words a packet has another one, or is whole.
-use Rattle.std.proofs.Common.{◌≡◌, ◌≢◌, ℕ, zero, suc, ◌+◌, ◌-◌, ◌*◌, ◌^◌, ◌<◌, ◌≤◌, ◌⊎◌, inl, inr, Bool, true, false, List, [], ◌∷◌, ◌++◌, length, take, drop, get_or, Option, Some, None, Result, Ok, Err, IfOk, IfErr, refl, sym, ap, ◌∙◌, subst, append-nil, length-append, length-drop, take-append-drop, arith}
+use Rattle.std.proofs.Common.{◌≡◌, ℕ, suc, ◌+◌, ◌-◌, ◌*◌, ◌^◌, ◌<◌, ◌≤◌, ◌⊎◌, inl, inr, Bool, true, false, List, [], ◌∷◌, ◌++◌, length, take, drop, Option, Some, None, refl, sym, ap, ◌∙◌, subst, append-nil, length-append, length-drop, take-append-drop, arith}
 use Rattle.std.proofs.lemmas.Bool.{cases_lt}
-use Rattle.std.proofs.lemmas.List.{length-take, length-take-le, take_at, drop_at, take_all}
-use Rattle.vrt_words.specs.Words.{words_of, AreWords, AreBytes}
-use Rattle.vrt_words.specs.Begins.{IsDatagram, IsRefused, IsRefusedAt}
-use Rattle.vrt_words.specs.WordLaws.{length-words_of}
-use Rattle.vrt_words.specs.declared.place.Place.{Place}
-use Rattle.vrt_header.specs.Profile.{PacketProfile}
+use Rattle.std.proofs.lemmas.List.{take_all}
+use Rattle.vrt_words.specs.Words.{AreWords}
 use Rattle.vrt_fields.specs.Field.{fields_in_order}
 use Rattle.vrt_fields.specs.FieldSet.{FieldValues, IsFieldSet, IsFieldMask, mask_of, words_of_set, width_of_mask, number_in_mask}
-use Rattle.vrt_fields.specs.FieldSetLaws.{AllFit-IsFieldSet, fits_read, mask_read, words_read, one_set, mask_is_of_fields, width_is_of_fields}
+use Rattle.vrt_fields.specs.FieldSetLaws.{AllFit-IsFieldSet, fits_read, mask_read, words_read, mask_is_of_fields, width_is_of_fields}
 use Rattle.vrt_fields.specs.MaskLaws.{mask_of_width, mask_of_number}
 use Rattle.vrt_fields.specs.Values.{values_in}
 use Rattle.cam_field.specs.Cam.{IsForRole}
 use Rattle.cam_field.specs.Spelling.{bit_of}
 use Rattle.cam_field.specs.declared.cam.Cam.{Cam}
 use Rattle.cam_field.specs.declared.modes.Role.TheVariants as roles
-use Rattle.command_prologue.specs.CommandPrologue.{IsCommandPrologue, IsAnswerSize, IsContentSize, command_words}
-use Rattle.command_prologue.specs.CommandPrologueLaws.{one_answer, command_length, split_row, same_head}
-use Rattle.command_prologue.specs.Growing.{AreGrown, IsStoppedAt}
-use Rattle.command_prologue.specs.GrowingLaws.{refused_datagram, refused_datagram_in_front}
-use Rattle.command_prologue.specs.Sizes.{IsOtherSize}
+use Rattle.command_prologue.specs.CommandPrologue.{IsAnswerSize}
+use Rattle.command_prologue.specs.CommandPrologueLaws.{same_head}
 use Rattle.command_prologue.specs.declared.prologue.CommandPrologue.{CommandPrologue}
 use Rattle.ack_codec.specs.Responses.{AreResponses, listed_words}
-use Rattle.ack_codec.specs.ResponseLaws.{one_responses, responses_under, responses_read, listed_read, length-listed_words, at_most_twelve}
-use Rattle.ack_codec.specs.Ack.{front_of, front_of_report, front_of_state, kind_bit, AreAnnounced, report_words, IsReport, IsState, IsContent, IsAck}
-use Rattle.ack_codec.specs.Steps.{left_of, IsAckFront, IsBegunOne, IsBegunTwo, IsBegunNone, IsBegunReport, IsBegunKind, IsBegun, IsCutAt}
+use Rattle.ack_codec.specs.ResponseLaws.{responses_under, responses_read, listed_read, length-listed_words, at_most_twelve}
+use Rattle.ack_codec.specs.Ack.{front_of, kind_bit, AreAnnounced, report_words, IsState, IsContent}
+use Rattle.ack_codec.specs.Steps.{left_of, IsBegunOne, IsBegunTwo, IsBegunReport, IsBegunKind, report_with}
 use Rattle.ack_codec.specs.declared.responses.Responses.{Responses}
 use Rattle.ack_codec.specs.declared.ack.Ack.{Ack}
 use Rattle.ack_codec.specs.declared.ack.Ack.TheVariants.{V, X, S}
-use Rattle.ack_codec.specs.declared.ack.AckReport.{AckReport}
 use Rattle.ack_codec.specs.declared.ack.AckState.{AckState}
 use Rattle.ack_codec.specs.ContentLaws.{kind_v, kind_x, announced_none, announced_some}
 
@@ -227,17 +219,6 @@ report_in true true size (first ∷ second ∷ words) all h least =
       ),
     )
 
-abbrev pub report_of : CommandPrologue → Option Responses → Option Responses → AckReport
-report_of front w e = record {
-  prologue = front.prologue;
-  cam = front.cam;
-  message = front.message;
-  controllee = front.controllee;
-  controller = front.controller;
-  warnings = w;
-  errors = e;
-}
-
 abbrev pub state_of : CommandPrologue → FieldValues → AckState
 state_of front fields = record {
   prologue = front.prologue;
@@ -257,13 +238,13 @@ pub record AckWith (front : CommandPrologue) (words : List ℕ) : Type 0 where
 
 content_report : (front : CommandPrologue) (words : List ℕ) → (front.cam.v ≡ true) ⊎ (front.cam.x ≡ true) → ReportIn front.cam.warned front.cam.erred words → AckWith front words
 content_report front words (inl v) h = record {
-  ack = V (report_of front h.0 h.1.0);
+  ack = V (report_with front h.0 h.1.0);
   same = refl;
   kind = v;
   content = record { warned = h.1.1.0; erred = h.1.1.1.0; all = h.1.1.1.1 };
 }
 content_report front words (inr x) h = record {
-  ack = X (report_of front h.0 h.1.0);
+  ack = X (report_with front h.0 h.1.0);
   same = refl;
   kind = x;
   content = record { warned = h.1.1.0; erred = h.1.1.1.0; all = h.1.1.1.1 };

@@ -1,8 +1,8 @@
 -- Laws of responses: a mask and the words under it are those of one list of responses.
-use Rattle.std.proofs.Common.{◌≡◌, ℕ, zero, suc, ◌+◌, ◌*◌, ◌^◌, ◌<◌, ◌≤◌, List, [], ◌∷◌, ◌++◌, length, take, drop, get_or, sum_by, refl, sym, ap, ◌∙◌, subst, arith, length-append, length-drop, take-add}
+use Rattle.std.proofs.Common.{◌≡◌, ℕ, zero, suc, ◌+◌, ◌<◌, ◌≤◌, List, [], ◌∷◌, ◌++◌, length, take, drop, get_or, sum_by, refl, sym, ap, ◌∙◌, subst, arith, length-append, length-drop, take-add}
 use Rattle.std.proofs.lemmas.List.Sums.{sum_by-cons}
 use Rattle.vrt_fields.specs.Field.{fields_in_order}
-use Rattle.vrt_fields.specs.FieldSet.{index_of, bit_in, number_in_mask, width_of_mask, IsFieldMask}
+use Rattle.vrt_fields.specs.FieldSet.{index_of, bit_in, number_in_mask, IsFieldMask}
 use Rattle.vrt_fields.specs.declared.field.Field.{Field}
 use Rattle.vrt_fields.specs.declared.field.Field.TheVariants.{ReferencePoint, Bandwidth, IfReference, RfReference, IfOffset, ReferenceLevel, Gain, SampleRate, TimeAdjustment, Calibration, State, Format}
 use Rattle.ack_codec.specs.declared.responses.Responses.{Responses}

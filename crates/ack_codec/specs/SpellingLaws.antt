@@ -1,9 +1,9 @@
 -- The words and the bytes that spell an acknowledgement are one list.
-use Rattle.std.proofs.Common.{◌≡◌, ℕ, ◌+◌, ◌*◌, ◌≤◌, List, [], ◌∷◌, ◌++◌, length, take, drop, sym, ap, ◌∙◌, subst, take-append-drop, length-append, length-drop, append_assoc, arith}
+use Rattle.std.proofs.Common.{◌≡◌, ℕ, ◌+◌, ◌*◌, ◌≤◌, List, ◌++◌, length, take, drop, sym, ap, ◌∙◌, subst, take-append-drop, length-append, length-drop, append_assoc, arith}
 use Rattle.std.proofs.lemmas.List.{length-take, length-take-le, take_at, drop_at}
 use Rattle.vrt_words.specs.Words.{words_of, AreWords, AreBytes}
 use Rattle.vrt_words.specs.Begins.{IsDatagram}
-use Rattle.vrt_words.specs.WordLaws.{words_of-words, words_of-take, words_of-drop, length-words_of, one_spelling, AreWords-take, AreWords-drop}
+use Rattle.vrt_words.specs.WordLaws.{words_of-words, one_spelling, AreWords-take}
 use Rattle.vrt_header.specs.Profile.{PacketProfile}
 use Rattle.cam_field.specs.declared.modes.Role.TheVariants as roles
 use Rattle.command_prologue.specs.CommandPrologue.{command_words}

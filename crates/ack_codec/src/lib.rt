@@ -2,12 +2,16 @@
 #![tactic(auto)]
 
 mod ack;
+mod front;
 mod listing;
 mod mask;
 mod reading;
+mod reports;
 mod responses;
 mod round_trip;
 mod spelling;
+#[cfg(test)]
+mod tests;
 
 pub use crate::ack::{Ack, AckReport, AckState};
 pub use crate::reading::decode_ack;

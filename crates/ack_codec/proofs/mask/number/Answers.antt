@@ -1,5 +1,4 @@
 use Rattle.std.proofs.Common.{arith}
-use Rattle.vrt_fields.specs.Field.{fields_in_order}
 use Rattle.ack_codec.specs.ResponseLaws.{at_most_twelve}
 use Rattle.ack_codec.proofs.Fields.{bits_next, bits_end}
 use Rattle.ack_codec.proofs.mask.number.Goals as goal

@@ -1,5 +1,4 @@
 use Rattle.std.proofs.Common.{arith}
-use Rattle.vrt_fields.specs.Field.{fields_in_order}
 use Rattle.ack_codec.proofs.Fields.{width_next, width_end, widest}
 use Rattle.ack_codec.proofs.mask.width.Goals as goal
 

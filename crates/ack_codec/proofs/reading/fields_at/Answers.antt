@@ -1,5 +1,5 @@
 -- CIF0 announces all the words behind it.
-use Rattle.std.proofs.Common.{◌≡◌, ◌∷◌, refl, sym, ap, ◌∙◌, arith}
+use Rattle.std.proofs.Common.{◌∷◌, sym, ap, ◌∙◌, arith}
 use Rattle.vrt_words.specs.Words.{words_of}
 use Rattle.vrt_words.specs.WordLaws.{length-words_of}
 use Rattle.vrt_fields.specs.FieldSet.{width_of_mask, words_of_set}

@@ -1,5 +1,5 @@
 -- CIF0 is written, and its fields behind it.
-use Rattle.std.proofs.Common.{◌≡◌, ◌+◌, ◌*◌, ◌++◌, ◌∷◌, [], take, drop, sym, ap, ◌∙◌, arith}
+use Rattle.std.proofs.Common.{◌≡◌, ◌+◌, ◌*◌, ◌++◌, ◌∷◌, [], take, drop, ap, ◌∙◌, arith}
 use Rattle.vrt_words.specs.Words.{words_of}
 use Rattle.vrt_words.specs.WordLaws.{length-words_of}
 use Rattle.vrt_fields.specs.FieldSet.{mask_of, words_of_set}

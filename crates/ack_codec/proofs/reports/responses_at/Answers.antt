@@ -1,6 +1,6 @@
 -- Where neither is announced, the front ends the datagram.
 use Rattle.ack_codec.proofs.CutLemmas.{read_none, cut_unannounced}
-use Rattle.ack_codec.proofs.reading.responses_at.Goals as goal
+use Rattle.ack_codec.proofs.reports.responses_at.Goals as goal
 
 pub returns-in-Ok-check_size-clause-found : goal.returns-in-Ok-check_size-clause-found
 returns-in-Ok-check_size-clause-found c =
