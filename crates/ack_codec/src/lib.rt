@@ -2,7 +2,19 @@
 #![tactic(auto)]
 
 mod ack;
+mod front;
+mod listing;
+mod mask;
+mod reading;
+mod reports;
 mod responses;
+mod round_trip;
+mod spelling;
+#[cfg(test)]
+mod tests;
 
 pub use crate::ack::{Ack, AckReport, AckState};
+pub use crate::reading::decode_ack;
 pub use crate::responses::Responses;
+pub use crate::round_trip::one_to_one;
+pub use crate::spelling::encode_ack;

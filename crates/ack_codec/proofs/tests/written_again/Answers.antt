@@ -1,0 +1,10 @@
+-- The words that were read spell the acknowledgement.
+use Rattle.std.proofs.Common.{arith}
+use Rattle.vrt_words.specs.Words.{words_of}
+use Rattle.vrt_words.specs.WordLaws.{words_of-words}
+use Rattle.ack_codec.proofs.tests.written_again.Goals as goal
+
+pub encode_ack-requires-clause-spelled : goal.encode_ack-requires-clause-spelled
+encode_ack-requires-clause-spelled c =
+    let bytes = c.args.bytes.now in
+    (words_of bytes, words_of-words bytes (λ i. omega (arith, c.type_inv.bytes i)), c.in-Ok.ensures.found.packet)
