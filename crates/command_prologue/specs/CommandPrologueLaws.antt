@@ -8,7 +8,7 @@ use Rattle.std.proofs.lemmas.List.{length-take, length-take-le, take_at, drop_at
 use Rattle.vrt_words.specs.Words.{AreWords}
 use Rattle.vrt_words.specs.Begins.{IsRefusedAt}
 use Rattle.vrt_header.specs.Profile.{PacketProfile}
-use Rattle.vrt_header.specs.Header.{IsHeader, is_size, prologue_words}
+use Rattle.vrt_header.specs.Header.{IsKind, IsHeader, is_size, prologue_words}
 use Rattle.vrt_header.specs.Prologue.{IsPrologue}
 use Rattle.vrt_header.specs.PrologueLaws.{one_header, one_prologue}
 use Rattle.vrt_header.specs.declared.header.Kind.{Kind}
@@ -510,3 +510,13 @@ module _ (profile : PacketProfile) (role : Role) where
   pub content_left : (v : CommandPrologue) (words : List ℕ) → IsCommandPrologue profile role v words
       → (content : ℕ) × ((v.prologue.header.size ≡ command_words v + content) × IsContentSize role v.cam content)
   content_left v words h = (h.behind.mode.content, (h.behind.mode.size, h.behind.mode.allowed))
+
+  -- the header is that of a packet of the kind
+  pub header_kind : (v : CommandPrologue) (n : ℕ) (words : List ℕ) → IsCommandPrologue profile role v (take n words) → IsKind (kind_of role) (get_or words 0 0)
+  header_kind v n words h =
+      let j = prologue_words v.prologue.header.timed in
+      let some = four_or_more v.prologue.header.timed in
+      let told = front_told v n words h in
+      let first : get_or (take j (take n words)) 0 0 ≡ get_or words 0 0 =
+      get_or-take j (take n words) 0 0 (omega arith) ∙ get_or-take n words 0 0 (omega (arith, told.0)) in
+      subst (λ (k : Kind). IsKind k (get_or words 0 0)) h.prologue.kind (subst (IsKind v.prologue.header.kind) first h.prologue.prologue.header.kind)

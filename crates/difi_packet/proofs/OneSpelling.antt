@@ -6,7 +6,10 @@ use Rattle.vrt_header.specs.Profile.{PacketProfile}
 use Rattle.difi_data.specs.SpellingLaws.{one_datagram as one_data_datagram}
 use Rattle.difi_context.specs.SpellingLaws.{one_datagram as one_context_datagram}
 use Rattle.difi_version.specs.SpellingLaws.{one_datagram as one_version_datagram}
-use Rattle.difi_packet.specs.Packet.{PacketValue, DataValue, ContextValue, VersionValue, IsPacket}
+use Rattle.command_codec.specs.ControlLaws.{one_datagram as one_control_datagram}
+use Rattle.command_codec.specs.CancelLaws.{one_datagram as one_cancel_datagram}
+use Rattle.ack_codec.specs.SpellingLaws.{one_datagram as one_ack_datagram}
+use Rattle.difi_packet.specs.Packet.{PacketValue, DataValue, ContextValue, VersionValue, ControlValue, CancelValue, AckValue, IsPacket}
 
 pub one_datagram : (profile : PacketProfile) (value : PacketValue) (a b : List ℕ) → AreBytes a → AreBytes b
     → IsDatagram (IsPacket profile) value a → IsDatagram (IsPacket profile) value b → a ≡ b
@@ -16,3 +19,9 @@ one_datagram profile (ContextValue rec) a b fits fits' p q =
     one_context_datagram profile rec a b fits fits' (record { whole = p.whole; packet = p.packet }) (record { whole = q.whole; packet = q.packet })
 one_datagram profile (VersionValue rec) a b fits fits' p q =
     one_version_datagram profile rec a b fits fits' (record { whole = p.whole; packet = p.packet }) (record { whole = q.whole; packet = q.packet })
+one_datagram profile (ControlValue packet) a b fits fits' p q =
+    one_control_datagram profile packet a b fits fits' (record { whole = p.whole; packet = p.packet }) (record { whole = q.whole; packet = q.packet })
+one_datagram profile (CancelValue packet) a b fits fits' p q =
+    one_cancel_datagram profile packet a b fits fits' (record { whole = p.whole; packet = p.packet }) (record { whole = q.whole; packet = q.packet })
+one_datagram profile (AckValue packet) a b fits fits' p q =
+    one_ack_datagram profile packet a b fits fits' (record { whole = p.whole; packet = p.packet }) (record { whole = q.whole; packet = q.packet })

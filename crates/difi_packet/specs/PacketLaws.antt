@@ -1,72 +1,95 @@
--- Laws of packets: the packet type tells the kind, and what is refused by its kind is refused by all.
-use Rattle.std.proofs.Common.{◌≡◌, ◌≢◌, ℕ, suc, ◌<◌, List, [], ◌∷◌, ◌++◌, length, take, get_or, refl, sym, ap, ◌∙◌, arith}
-use Rattle.std.proofs.lemmas.List.{get_or-take}
-use Rattle.vrt_words.specs.Words.{words_of, bits}
+-- Laws of packets: the header tells the kind, and what is refused by its kind is refused by all.
+use Rattle.std.proofs.Common.{◌≡◌, ℕ, suc, ◌<◌, Bool, true, false, List, ◌++◌, length, take, get_or, refl, sym, ap, ◌∙◌, subst, arith}
+use Rattle.std.proofs.lemmas.List.{get_or-take, take-take, length-take}
+use Rattle.vrt_words.specs.Words.{words_of}
 use Rattle.vrt_words.specs.Begins.{IsRefused}
 use Rattle.vrt_words.specs.BeginLaws.{begun_words}
 use Rattle.vrt_header.specs.Profile.{PacketProfile}
-use Rattle.vrt_header.specs.Header.{type_of}
+use Rattle.vrt_header.specs.Header.{IsKind, prologue_words}
 use Rattle.vrt_header.specs.Prologue.{IsPrologue}
+use Rattle.vrt_header.specs.PrologueLaws.{one_kind}
 use Rattle.vrt_header.specs.declared.header.Kind.{Kind}
+use Rattle.vrt_header.specs.declared.header.Kind.TheVariants as kinds
 use Rattle.vrt_header.specs.declared.prologue.Prologue.{Prologue}
+use Rattle.cam_field.specs.declared.modes.Role.{Role}
+use Rattle.command_prologue.specs.CommandPrologue.{kind_of, IsCommandPrologue}
+use Rattle.command_prologue.specs.CommandPrologueLaws.{header_kind}
+use Rattle.command_prologue.specs.declared.prologue.CommandPrologue.{CommandPrologue}
 use Rattle.difi_data.specs.Data.{DataPacket, IsData}
 use Rattle.difi_data.specs.DataLaws.{one_data}
 use Rattle.difi_context.specs.Context.{IsContext}
 use Rattle.difi_context.specs.ContextLaws.{one_context}
 use Rattle.difi_version.specs.Version.{IsVersion}
 use Rattle.difi_version.specs.VersionLaws.{one_version}
-use Rattle.difi_packet.specs.Packet.{PacketValue, DataValue, ContextValue, VersionValue, IsPacket, size_in_words}
+use Rattle.command_codec.specs.Control.{IsControl}
+use Rattle.command_codec.specs.ControlLaws.{one_control}
+use Rattle.command_codec.specs.Cancel.{IsCancel}
+use Rattle.command_codec.specs.CancelLaws.{one_cancel}
+use Rattle.ack_codec.specs.Ack.{IsAck}
+use Rattle.ack_codec.specs.AckLaws.{one_ack}
+use Rattle.difi_packet.specs.Packet.{PacketValue, DataValue, ContextValue, VersionValue, ControlValue, CancelValue, AckValue, IsPacket, size_in_words}
 use Rattle.difi_context.specs.declared.context.ContextRec.{ContextRec}
 use Rattle.difi_version.specs.declared.version.VersionRec.{VersionRec}
+use Rattle.command_codec.specs.declared.control.Control.{Control}
+use Rattle.command_codec.specs.declared.cancel.Cancel.{Cancel}
+use Rattle.ack_codec.specs.declared.ack.Ack.{Ack}
 
--- ---- the packet type
+-- ---- the kind
 
--- the packet type of each kind
-pub type_in : PacketValue → ℕ
-type_in (DataValue packet) = 1
-type_in (ContextValue rec) = 4
-type_in (VersionValue rec) = 5
+pub kind_in : PacketValue → Kind
+kind_in (DataValue packet) = kinds.Data
+kind_in (ContextValue rec) = kinds.Context
+kind_in (VersionValue rec) = kinds.Version
+kind_in (ControlValue packet) = kinds.Control
+kind_in (CancelValue packet) = kinds.Cancel
+kind_in (AckValue packet) = kinds.Ack
 
-type_of_prologue : (profile : PacketProfile) (p : Prologue) (kind : Kind) (words : List ℕ) → IsPrologue profile p (take 7 words) → p.header.kind ≡ kind
-    → bits (get_or words 0 0) 28 4 ≡ type_of kind
-type_of_prologue profile p kind words h e =
-    ap (λ w. bits w 28 4) (sym (get_or-take 7 words 0 0 (omega arith))) ∙ h.header.kind.packet_type ∙ ap type_of e
+kind_of_prologue : (profile : PacketProfile) (p : Prologue) (kind : Kind) (words : List ℕ) → IsPrologue profile p (take 7 words) → p.header.kind ≡ kind
+    → IsKind kind (get_or words 0 0)
+kind_of_prologue profile p kind words h e =
+    subst (λ (k : Kind). IsKind k (get_or words 0 0)) e (subst (IsKind p.header.kind) (get_or-take 7 words 0 0 (omega arith)) h.header.kind)
 
--- the first word of a packet tells its packet type
-pub type_told : (profile : PacketProfile) (v : PacketValue) (words : List ℕ) → IsPacket profile v words → bits (get_or words 0 0) 28 4 ≡ type_in v
-unfolding type_in
-type_told profile (DataValue packet) words h = type_of_prologue profile packet.prologue _ words h.prologue h.kind
-type_told profile (ContextValue rec) words h = type_of_prologue profile rec.prologue _ words h.prologue h.kind
-type_told profile (VersionValue rec) words h = type_of_prologue profile rec.prologue _ words h.prologue h.kind
+-- the header of a packet tells its kind
+pub kind_told : (profile : PacketProfile) (v : PacketValue) (words : List ℕ) → IsPacket profile v words → IsKind (kind_in v) (get_or words 0 0)
+unfolding kind_in
+kind_told profile (DataValue packet) words h = kind_of_prologue profile packet.prologue kinds.Data words h.prologue h.kind
+kind_told profile (ContextValue rec) words h = kind_of_prologue profile rec.prologue kinds.Context words h.prologue h.kind
+kind_told profile (VersionValue rec) words h = kind_of_prologue profile rec.prologue kinds.Version words h.prologue h.kind
+kind_told profile (ControlValue packet) words h = header_kind profile _ _ _ words h.front
+kind_told profile (CancelValue packet) words h = header_kind profile _ _ _ words h.front
+kind_told profile (AckValue packet) words h = header_kind profile _ _ _ words h.front
 
--- and so does that of a packet that begins so
-type_begun : (profile : PacketProfile) (v : PacketValue) (words rest : List ℕ) (w : ℕ) → w < length words → IsPacket profile v (take (suc w) words ++ rest)
-    → bits (get_or words 0 0) 28 4 ≡ type_in v
-type_begun profile v words rest w there h =
-    ap (λ x. bits x 28 4) (sym (begun_words w words rest 0 there (omega arith))) ∙ type_told profile v (take (suc w) words ++ rest) h
+same_kind : (profile : PacketProfile) (a b : PacketValue) (words : List ℕ) → IsPacket profile a words → IsPacket profile b words → kind_in a ≡ kind_in b
+same_kind profile a b words p q = one_kind (kind_in a) (kind_in b) (get_or words 0 0) (kind_told profile a words p) (kind_told profile b words q)
 
 -- words spell one packet
 pub one_packet : (profile : PacketProfile) (a b : PacketValue) (words : List ℕ) → IsPacket profile a words → IsPacket profile b words → a ≡ b
-unfolding type_in
+unfolding kind_in
 one_packet profile (DataValue a) (DataValue b) words p q = ap DataValue (one_data profile a b words p q)
 one_packet profile (ContextValue a) (ContextValue b) words p q = ap ContextValue (one_context profile a b words p q)
 one_packet profile (VersionValue a) (VersionValue b) words p q = ap VersionValue (one_version profile a b words p q)
-one_packet profile a b words p q = absurd (omega (arith, type_told profile a words p, type_told profile b words q))
+one_packet profile (ControlValue a) (ControlValue b) words p q = ap ControlValue (one_control profile a b words p q)
+one_packet profile (CancelValue a) (CancelValue b) words p q = ap CancelValue (one_cancel profile a b words p q)
+one_packet profile (AckValue a) (AckValue b) words p q = ap AckValue (one_ack profile a b words p q)
+one_packet profile a b words p q = absurd (cc (same_kind profile a b words p q))
 
 -- they are as many as the packet's size
 pub size_told : (profile : PacketProfile) (v : PacketValue) (words : List ℕ) → IsPacket profile v words → length words ≡ size_in_words v
 size_told profile (DataValue packet) words h = sym h.size
 size_told profile (ContextValue rec) words h = h.all
 size_told profile (VersionValue rec) words h = h.all
+size_told profile (ControlValue packet) words h = sym h.size
+size_told profile (CancelValue packet) words h = sym h.size
+size_told profile (AckValue packet) words h = sym h.size
 
--- ---- the place is that of the kind which the packet type tells
+-- ---- the place is that of the kind which the header tells
 
--- packets of one kind among others, which its packet type tells
-same_place : {V W : Type 0} (IsOne : V → List ℕ → Type 0) (IsAny : W → List ℕ → Type 0) (told : ℕ) (among : V → W)
+-- packets of one kind among others, which the header tells
+same_place : {V W : Type 0} (IsOne : V → List ℕ → Type 0) (IsAny : W → List ℕ → Type 0) (kind : Kind) (among : V → W)
     → ((u : V) (words : List ℕ) → IsOne u words → IsAny (among u) words)
-    → ((v : W) (words : List ℕ) → bits (get_or words 0 0) 28 4 ≡ told → IsAny v words → (u : V) × IsOne u words)
-    → (bytes : List ℕ) (place : ℕ) → bits (get_or (words_of bytes) 0 0) 28 4 ≡ told → IsRefused IsOne bytes place → IsRefused IsAny bytes place
-same_place {V} {W} IsOne IsAny told among up down bytes place e h =
+    → ((v : W) (words : List ℕ) → IsKind kind (get_or words 0 0) → IsAny v words → (u : V) × IsOne u words)
+    → (bytes : List ℕ) (place : ℕ) → IsKind kind (get_or (words_of bytes) 0 0) → IsRefused IsOne bytes place → IsRefused IsAny bytes place
+same_place {V} {W} IsOne IsAny kind among up down bytes place e h =
     let words = words_of bytes in
     record {
       at = record {
@@ -75,72 +98,101 @@ same_place {V} {W} IsOne IsAny told among up down bytes place e h =
         here = λ less b.
             let xs = take (suc place) words ++ b.1.0 in
             let first : get_or xs 0 0 ≡ get_or words 0 0 = begun_words place words b.1.0 0 less (omega arith) in
-            let one = down b.0 xs (ap (λ x. bits x 28 4) first ∙ e) b.1.1.1 in
+            let one = down b.0 xs (subst (IsKind kind) (sym first) e) b.1.1.1 in
             h.at.here less (one.0, (b.1.0, (b.1.1.0, one.1)));
       };
       no_packet = λ v d. let one = down v words e d.packet in h.no_packet one.0 (record { whole = d.whole; packet = one.1 });
     }
 
-data_of : (profile : PacketProfile) (v : PacketValue) (words : List ℕ) → bits (get_or words 0 0) 28 4 ≡ 1 → IsPacket profile v words
-    → (u : DataPacket) × IsData profile u words
-unfolding type_in
+-- a packet has the kind that the header tells
+kind_is : (profile : PacketProfile) (kind : Kind) (v : PacketValue) (words : List ℕ) → IsKind kind (get_or words 0 0) → IsPacket profile v words → kind_in v ≡ kind
+kind_is profile kind v words e h = one_kind (kind_in v) kind (get_or words 0 0) (kind_told profile v words h) e
+
+data_of : (profile : PacketProfile) (v : PacketValue) (words : List ℕ) → IsKind kinds.Data (get_or words 0 0) → IsPacket profile v words → (u : DataPacket) × IsData profile u words
+unfolding kind_in
 data_of profile (DataValue packet) words e h = (packet, h)
-data_of profile v words e h = absurd (omega (arith, type_told profile v words h))
+data_of profile v words e h = absurd (cc (kind_is profile kinds.Data v words e h))
 
-context_of : (profile : PacketProfile) (v : PacketValue) (words : List ℕ) → bits (get_or words 0 0) 28 4 ≡ 4 → IsPacket profile v words
+context_of : (profile : PacketProfile) (v : PacketValue) (words : List ℕ) → IsKind kinds.Context (get_or words 0 0) → IsPacket profile v words
     → (u : ContextRec) × IsContext profile u words
-unfolding type_in
+unfolding kind_in
 context_of profile (ContextValue rec) words e h = (rec, h)
-context_of profile v words e h = absurd (omega (arith, type_told profile v words h))
+context_of profile v words e h = absurd (cc (kind_is profile kinds.Context v words e h))
 
-version_of : (profile : PacketProfile) (v : PacketValue) (words : List ℕ) → bits (get_or words 0 0) 28 4 ≡ 5 → IsPacket profile v words
+version_of : (profile : PacketProfile) (v : PacketValue) (words : List ℕ) → IsKind kinds.Version (get_or words 0 0) → IsPacket profile v words
     → (u : VersionRec) × IsVersion profile u words
-unfolding type_in
+unfolding kind_in
 version_of profile (VersionValue rec) words e h = (rec, h)
-version_of profile v words e h = absurd (omega (arith, type_told profile v words h))
+version_of profile v words e h = absurd (cc (kind_is profile kinds.Version v words e h))
 
-pub data_place : (profile : PacketProfile) (bytes : List ℕ) (place : ℕ) → bits (get_or (words_of bytes) 0 0) 28 4 ≡ 1
-    → IsRefused (IsData profile) bytes place → IsRefused (IsPacket profile) bytes place
-data_place profile bytes place e h =
-    same_place (IsData profile) (IsPacket profile) 1 DataValue (λ u words p. p) (data_of profile) bytes place e h
+control_of : (profile : PacketProfile) (v : PacketValue) (words : List ℕ) → IsKind kinds.Control (get_or words 0 0) → IsPacket profile v words
+    → (u : Control) × IsControl profile u words
+unfolding kind_in
+control_of profile (ControlValue packet) words e h = (packet, h)
+control_of profile v words e h = absurd (cc (kind_is profile kinds.Control v words e h))
 
-pub context_place : (profile : PacketProfile) (bytes : List ℕ) (place : ℕ) → bits (get_or (words_of bytes) 0 0) 28 4 ≡ 4
-    → IsRefused (IsContext profile) bytes place → IsRefused (IsPacket profile) bytes place
-context_place profile bytes place e h =
-    same_place (IsContext profile) (IsPacket profile) 4 ContextValue (λ u words p. p) (context_of profile) bytes place e h
+cancel_of : (profile : PacketProfile) (v : PacketValue) (words : List ℕ) → IsKind kinds.Cancel (get_or words 0 0) → IsPacket profile v words
+    → (u : Cancel) × IsCancel profile u words
+unfolding kind_in
+cancel_of profile (CancelValue packet) words e h = (packet, h)
+cancel_of profile v words e h = absurd (cc (kind_is profile kinds.Cancel v words e h))
 
-pub version_place : (profile : PacketProfile) (bytes : List ℕ) (place : ℕ) → bits (get_or (words_of bytes) 0 0) 28 4 ≡ 5
-    → IsRefused (IsVersion profile) bytes place → IsRefused (IsPacket profile) bytes place
-version_place profile bytes place e h =
-    same_place (IsVersion profile) (IsPacket profile) 5 VersionValue (λ u words p. p) (version_of profile) bytes place e h
+ack_of : (profile : PacketProfile) (v : PacketValue) (words : List ℕ) → IsKind kinds.Ack (get_or words 0 0) → IsPacket profile v words → (u : Ack) × IsAck profile u words
+unfolding kind_in
+ack_of profile (AckValue packet) words e h = (packet, h)
+ack_of profile v words e h = absurd (cc (kind_is profile kinds.Ack v words e h))
 
--- ---- other packet types
+module _ (profile : PacketProfile) (bytes : List ℕ) (place : ℕ) where
+  pub data_place : IsKind kinds.Data (get_or (words_of bytes) 0 0) → IsRefused (IsData profile) bytes place → IsRefused (IsPacket profile) bytes place
+  data_place e h = same_place (IsData profile) (IsPacket profile) kinds.Data DataValue (λ u words p. p) (data_of profile) bytes place e h
 
-known_type : (v : PacketValue) → type_in v ≢ 1 → type_in v ≢ 4 → type_in v ≢ 5 → ⊥
-unfolding type_in
-known_type (DataValue packet) p q r = p refl
-known_type (ContextValue rec) p q r = q refl
-known_type (VersionValue rec) p q r = r refl
+  pub context_place : IsKind kinds.Context (get_or (words_of bytes) 0 0) → IsRefused (IsContext profile) bytes place → IsRefused (IsPacket profile) bytes place
+  context_place e h = same_place (IsContext profile) (IsPacket profile) kinds.Context ContextValue (λ u words p. p) (context_of profile) bytes place e h
 
-pub other_type : (profile : PacketProfile) (bytes : List ℕ) → bits (get_or (words_of bytes) 0 0) 28 4 ≢ 1 → bits (get_or (words_of bytes) 0 0) 28 4 ≢ 4
-    → bits (get_or (words_of bytes) 0 0) 28 4 ≢ 5 → IsRefused (IsPacket profile) bytes 0
-other_type profile bytes p q r =
+  pub version_place : IsKind kinds.Version (get_or (words_of bytes) 0 0) → IsRefused (IsVersion profile) bytes place → IsRefused (IsPacket profile) bytes place
+  version_place e h = same_place (IsVersion profile) (IsPacket profile) kinds.Version VersionValue (λ u words p. p) (version_of profile) bytes place e h
+
+  pub control_place : IsKind kinds.Control (get_or (words_of bytes) 0 0) → IsRefused (IsControl profile) bytes place → IsRefused (IsPacket profile) bytes place
+  control_place e h = same_place (IsControl profile) (IsPacket profile) kinds.Control ControlValue (λ u words p. p) (control_of profile) bytes place e h
+
+  pub cancel_place : IsKind kinds.Cancel (get_or (words_of bytes) 0 0) → IsRefused (IsCancel profile) bytes place → IsRefused (IsPacket profile) bytes place
+  cancel_place e h = same_place (IsCancel profile) (IsPacket profile) kinds.Cancel CancelValue (λ u words p. p) (cancel_of profile) bytes place e h
+
+  pub ack_place : IsKind kinds.Ack (get_or (words_of bytes) 0 0) → IsRefused (IsAck profile) bytes place → IsRefused (IsPacket profile) bytes place
+  ack_place e h = same_place (IsAck profile) (IsPacket profile) kinds.Ack AckValue (λ u words p. p) (ack_of profile) bytes place e h
+
+-- ---- a first word of no kind
+
+some_words : (timed : Bool) → 0 < prologue_words timed
+some_words true = omega arith
+some_words false = omega arith
+
+some_front : (profile : PacketProfile) (p : Prologue) (n : ℕ) (words : List ℕ) → IsPrologue profile p (take n words) → 0 < length words
+some_front profile p n words h = omega (arith, h.all, some_words p.header.timed, length-take n words)
+
+some_command : (profile : PacketProfile) (role : Role) (front : CommandPrologue) (n : ℕ) (words : List ℕ) → IsCommandPrologue profile role front (take n words) → 0 < length words
+some_command profile role front n words h =
+    omega (arith, some_front profile front.prologue (prologue_words front.prologue.header.timed) (take n words) h.prologue.prologue, length-take n words)
+
+some_word : (profile : PacketProfile) (v : PacketValue) (words : List ℕ) → IsPacket profile v words → 0 < length words
+some_word profile (DataValue packet) words h = some_front profile packet.prologue 7 words h.prologue
+some_word profile (ContextValue rec) words h = some_front profile rec.prologue 7 words h.prologue
+some_word profile (VersionValue rec) words h = some_front profile rec.prologue 7 words h.prologue
+some_word profile (ControlValue packet) words h = some_command profile _ _ _ words h.front
+some_word profile (CancelValue packet) words h = some_command profile _ _ _ words h.front
+some_word profile (AckValue packet) words h = some_command profile _ _ _ words h.front
+
+pub no_kind : (profile : PacketProfile) (bytes : List ℕ) → ((kind : Kind) → ¬ ((0 < length (words_of bytes)) × IsKind kind (get_or (words_of bytes) 0 0)))
+    → IsRefused (IsPacket profile) bytes 0
+no_kind profile bytes none =
     let words = words_of bytes in
-    let none : (v : PacketValue) → bits (get_or words 0 0) 28 4 ≢ type_in v = λ v e. known_type v (λ h. p (e ∙ h)) (λ h. q (e ∙ h)) (λ h. r (e ∙ h)) in
     record {
       at = record {
         within = omega arith;
         before = λ u h. absurd (omega arith);
-        here = λ there b. none b.0 (type_begun profile b.0 words b.1.0 0 there b.1.1.1);
+        here = λ there b.
+            let first : get_or (take 1 words ++ b.1.0) 0 0 ≡ get_or words 0 0 = begun_words 0 words b.1.0 0 there (omega arith) in
+            none (kind_in b.0) (there, subst (IsKind (kind_in b.0)) first (kind_told profile b.0 (take 1 words ++ b.1.0) b.1.1.1));
       };
-      no_packet = λ v d. none v (type_told profile v words d.packet);
+      no_packet = λ v d. none (kind_in v) (some_word profile v words d.packet, kind_told profile v words d.packet);
     }
-
-no_word_type : (words : List ℕ) → length words ≡ 0 → bits (get_or words 0 0) 28 4 ≡ 0
-no_word_type [] e = refl
-no_word_type (x ∷ xs) e = absurd (omega arith)
-
-pub no_word : (profile : PacketProfile) (bytes : List ℕ) → length (words_of bytes) ≡ 0 → IsRefused (IsPacket profile) bytes 0
-no_word profile bytes e =
-    let t = no_word_type (words_of bytes) e in
-    other_type profile bytes (λ h. absurd (omega arith)) (λ h. absurd (omega arith)) (λ h. absurd (omega arith))

@@ -2,9 +2,12 @@ ghost use Rattle.std.specs.Prelude.{◌≡◌, ◌≤◌, ◌*◌, ℕ, List, le
 ghost use Rattle.vrt_words.specs.Words.{AreBytes, AreWords};
 ghost use Rattle.vrt_words.specs.Begins.{IsDatagram};
 ghost use Rattle.vrt_header.specs.Profile.{PacketProfile};
+ghost use Rattle.ack_codec.specs.Ack.{front_of};
 ghost use Rattle.difi_packet.specs.Packet.{IsPacket, value_of, size_in_words};
 
 use crate::packet::Packet;
+use ack_codec::{Ack, encode_ack};
+use command_codec::{encode_cancel, encode_control};
 use vrt_header::Profile;
 
 /// The words of a context packet.
@@ -23,7 +26,21 @@ pub fn size_of(packet: &Packet<'_>) -> usize
         Packet::Data(rec) => usize::from(rec.prologue.header.size),
         Packet::Context(_) => CONTEXT_WORDS,
         Packet::Version(_) => VERSION_WORDS,
+        Packet::Control(packet) => usize::from(packet.prologue.header.size),
+        Packet::Cancel(packet) => usize::from(packet.prologue.header.size),
+        Packet::Ack(packet) => size_of_ack(packet),
     }
+}
+
+// The size in the header of an acknowledgement.
+fn size_of_ack(packet: &Ack) -> usize
+    ensures { result ≡ (front_of packet.now).prologue.header.size }
+{
+    let header = match packet {
+        Ack::V(report) | Ack::X(report) => &report.prologue.header,
+        Ack::S(state) => &state.prologue.header,
+    };
+    usize::from(header.size)
 }
 
 /// Writes a packet at the front of `into`, and answers its words. All other bytes stay.
@@ -49,5 +66,8 @@ pub fn encode(profile: Profile, packet: &Packet<'_>, into: &mut [u8]) -> usize
             difi_version::encode(profile, rec, into);
             VERSION_WORDS
         }
+        Packet::Control(packet) => encode_control(profile, packet, into),
+        Packet::Cancel(packet) => encode_cancel(profile, packet, into),
+        Packet::Ack(packet) => encode_ack(profile, packet, into),
     }
 }

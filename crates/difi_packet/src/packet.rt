@@ -1,13 +1,17 @@
-ghost use Rattle.std.specs.Prelude.{◌≡◌, ◌<◌, List, length, slice_index, IfOk, IfErr, IsOkAnd, IfSome, IfNone};
-ghost use Rattle.vrt_words.specs.Words.{words_of, bits};
+ghost use Rattle.std.specs.Prelude.{◌≡◌, ◌<◌, length, slice_index, IfOk, IfErr, IsOkAnd, IfSome, IfNone};
+ghost use Rattle.vrt_words.specs.Words.{words_of};
 ghost use Rattle.vrt_words.specs.Begins.{IsDatagram, IsRefused};
+ghost use Rattle.vrt_header.specs.Header.{IsKind};
+ghost use Rattle.vrt_header.specs.declared.header.Kind as kinds;
 ghost use Rattle.difi_packet.specs.Packet.{PacketValue, IsPacket, value_of, IsLentFrom};
 
+use ack_codec::{Ack, decode_ack};
+use command_codec::{Cancel, Control, decode_cancel, decode_control};
 use difi_context::ContextRec;
 use difi_data::DataRec;
 use difi_version::VersionRec;
-use vrt_header::Profile;
-use vrt_words::{Place, bits_of, word_at};
+use vrt_header::{Kind, Profile, kind_of};
+use vrt_words::{Place, word_at};
 
 /// A packet of a stream, by its kind.
 #[derive(Clone, Copy, Debug, PartialEq, Eq)]
@@ -18,6 +22,12 @@ pub enum Packet<'a> {
     Context(ContextRec),
     /// Which versions a converter speaks (packet type 5).
     Version(VersionRec),
+    /// A command (packet type 6).
+    Control(Control),
+    /// A cancellation of a command (packet type 6).
+    Cancel(Cancel),
+    /// An acknowledgement of a command (packet type 6).
+    Ack(Ack),
 }
 
 /// The packet that a datagram is. The payload of a data packet is lent from the datagram.
@@ -31,31 +41,44 @@ pub fn decode(profile: Profile, bytes: &[u8]) -> Result<Packet<'_>, Place>
         → IsOkAnd result (λ packet. value_of packet ≡ value) }
     ensures refused { IfErr result (λ place. IsRefused (IsPacket profile) bytes.now place.word) }
 {
-    match packet_type(bytes) {
-        Some(1) => match difi_data::decode(profile, bytes) {
+    match kind_in(bytes) {
+        Some(Kind::Data) => match difi_data::decode(profile, bytes) {
             Ok(rec) => Ok(Packet::Data(rec)),
             Err(place) => Err(place),
         },
-        Some(4) => match difi_context::decode(profile, bytes) {
+        Some(Kind::Context) => match difi_context::decode(profile, bytes) {
             Ok(rec) => Ok(Packet::Context(rec)),
             Err(place) => Err(place),
         },
-        Some(5) => match difi_version::decode(profile, bytes) {
+        Some(Kind::Version) => match difi_version::decode(profile, bytes) {
             Ok(rec) => Ok(Packet::Version(rec)),
             Err(place) => Err(place),
         },
-        _ => Err(Place { word: 0 }),
+        Some(Kind::Control) => match decode_control(profile, bytes) {
+            Ok(packet) => Ok(Packet::Control(packet)),
+            Err(place) => Err(place),
+        },
+        Some(Kind::Cancel) => match decode_cancel(profile, bytes) {
+            Ok(packet) => Ok(Packet::Cancel(packet)),
+            Err(place) => Err(place),
+        },
+        Some(Kind::Ack) => match decode_ack(profile, bytes) {
+            Ok(packet) => Ok(Packet::Ack(packet)),
+            Err(place) => Err(place),
+        },
+        None => Err(Place { word: 0 }),
     }
 }
 
-// The packet type, which the first word tells.
-fn packet_type(bytes: &[u8]) -> Option<u32>
-    ensures told { IfSome result (λ told. (0 < length (words_of bytes.now))
-        × (bits (slice_index (words_of bytes.now) 0) 28 4 ≡ told)) }
-    ensures none { IfNone result (length (words_of bytes.now) ≡ 0) }
+// The kind of packet, which the first word tells.
+fn kind_in(bytes: &[u8]) -> Option<Kind>
+    ensures told { IfSome result (λ kind. (0 < length (words_of bytes.now))
+        × IsKind kind (slice_index (words_of bytes.now) 0)) }
+    ensures none { IfNone result ((kind : kinds.Kind)
+        → ¬ ((0 < length (words_of bytes.now)) × IsKind kind (slice_index (words_of bytes.now) 0))) }
 {
     match word_at(bytes, 0) {
-        Some(word) => Some(bits_of(word, 28, 4)),
+        Some(word) => kind_of(word),
         None => None,
     }
 }

@@ -18,6 +18,27 @@ const VERSION: [u32; 11] = [
     0x5960000B, 1, 0x006A621E, 0x00010004, 0x6553F100, 0, 0, 0x80000002, 12, 4, 0,
 ];
 
+// A command that sets the gain and the sample rate, at once.
+const CONTROL: [u32; 10] = [
+    0x6800000A, 1, 0x006A621E, 0, 0x01080000, 1, 0x00A00000, 0x600, 0, 0x00100000,
+];
+
+// A cancellation of the gain.
+const CANCEL: [u32; 7] = [0x69000007, 1, 0x006A621E, 0, 0x00080000, 3, 0x00800000];
+
+// Acknowledgements of an execution with errors, of a cancellation without, and of a query.
+const ACK_X: [u32; 12] = [
+    0x6C60000C, 1, 0x006A621E, 0, 0x6553F10A, 0, 0, 0x01090000, 1, 0x00A00000, 0x80000000,
+    0x90000000,
+];
+const ACK_NONE: [u32; 9] = [
+    0x6D600009, 1, 0x006A621E, 0, 0x6553F10F, 0, 0, 0x00080400, 3,
+];
+const ACK_S: [u32; 12] = [
+    0x6C60000C, 1, 0x006A621E, 0, 0x6553F10A, 0, 0, 0x00040000, 7, 0x08000000, 0x00047868,
+    0xC0000000,
+];
+
 // What is written of the packet that is read.
 fn written_again(profile: Profile, bytes: &[u8]) -> [u8; 108] {
     let mut written = [0; 108];
@@ -54,6 +75,11 @@ fn each_kind_is_read_and_written_again(rt: HostRuntime) {
     assert!(rt; is_written_again(profile, &DATA));
     assert!(rt; is_written_again(profile, &CONTEXT));
     assert!(rt; is_written_again(profile, &VERSION));
+    assert!(rt; is_written_again(profile, &CONTROL));
+    assert!(rt; is_written_again(profile, &CANCEL));
+    assert!(rt; is_written_again(profile, &ACK_X));
+    assert!(rt; is_written_again(profile, &ACK_NONE));
+    assert!(rt; is_written_again(profile, &ACK_S));
 }
 
 #[test]

@@ -19,3 +19,8 @@ pub returns-in-Version-clause-again : goal.returns-in-Version-clause-again
 returns-in-Version-clause-again c = λ bytes fits d.
     let p = rw c.in-Version.is at d in
     c.encode-in-Version.ensures.again bytes fits (record { whole = p.whole; packet = p.packet })
+
+pub returns-in-Ack-clause-again : goal.returns-in-Ack-clause-again
+returns-in-Ack-clause-again c = λ bytes fits d.
+    let p = rw c.in-Ack.is at d in
+    c.encode_ack.ensures.again bytes fits (record { whole = p.whole; packet = p.packet })
