@@ -2,10 +2,10 @@
 use Rattle.std.specs.Prelude.{ℕ, suc, ◌-◌, Bool, true, false, List, [], ◌∷◌, ◌++◌, length, count_by, codes}
 use Rattle.std.specs.Fmt.{decimal}
 use Rattle.vrt_fields.specs.Text.{hexadecimal}
-use Rattle.difi_cmd.specs.declared.lines.StreamKind.{StreamKind}
-use Rattle.difi_cmd.specs.declared.lines.StreamKind.TheVariants.{Data, Context, Version}
-use Rattle.difi_cmd.specs.declared.lines.Judgement.{Judgement}
-use Rattle.difi_cmd.specs.declared.lines.Judgement.TheVariants.{Accepted, Refused, TooLarge}
+use Rattle.difi_texts.specs.declared.lines.StreamKind.{StreamKind}
+use Rattle.difi_texts.specs.declared.lines.StreamKind.TheVariants.{Data, Context, Version}
+use Rattle.difi_texts.specs.declared.lines.Judgement.{Judgement}
+use Rattle.difi_texts.specs.declared.lines.Judgement.TheVariants.{Accepted, Refused, TooLarge}
 
 -- what a line says of an accepted packet in front of its stream
 abbrev pub acceptance : StreamKind → List ℕ

@@ -12,8 +12,8 @@ use Rattle.difi_context.specs.Context.{field_of}
 use Rattle.difi_context.specs.declared.context.ContextRec.{ContextRec}
 use Rattle.difi_version.specs.declared.version.VersionRec.{VersionRec}
 use Rattle.difi_packet.specs.Packet.{PacketValue, DataValue, ContextValue, VersionValue}
-use Rattle.difi_cmd.specs.declared.lines.Listing.{Listing}
-use Rattle.difi_cmd.specs.declared.lines.Listing.TheVariants.{Check, Show}
+use Rattle.difi_texts.specs.declared.lines.Listing.{Listing}
+use Rattle.difi_texts.specs.declared.lines.Listing.TheVariants.{Check, Show}
 
 -- a line under that of a frame
 abbrev pub indented : List ℕ → List ℕ

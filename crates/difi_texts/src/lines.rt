@@ -1,11 +1,14 @@
 ghost use Rattle.std.specs.Prelude.{◌≡◌, ◌≤◌, ◌+◌, ◌++◌, length};
-ghost use Rattle.difi_cmd.specs.Lines.{acceptance, line, outcome, counts};
+ghost use Rattle.difi_packet.specs.Packet.{value_of};
+ghost use Rattle.difi_texts.specs.Accounts.{accepted};
+ghost use Rattle.difi_texts.specs.Lines.{acceptance, line, outcome, counts};
 
 use crate::text_buffer::TextBuffer;
+use difi_packet::Packet;
 
 /// What is told of the frames of a record.
 #[derive(Clone, Copy, Debug, PartialEq, Eq)]
-pub(crate) enum Listing {
+pub enum Listing {
     /// A line for each frame.
     Check,
     /// And under it, what an accepted packet holds.
@@ -14,7 +17,7 @@ pub(crate) enum Listing {
 
 /// The kinds of packet that converters send.
 #[derive(Clone, Copy, Debug, PartialEq, Eq)]
-pub(crate) enum StreamKind {
+pub enum StreamKind {
     Data,
     Context,
     Version,
@@ -22,7 +25,7 @@ pub(crate) enum StreamKind {
 
 /// What is judged of a datagram.
 #[derive(Clone, Copy, Debug, PartialEq, Eq)]
-pub(crate) enum Judgement {
+pub enum Judgement {
     /// It is a packet of this kind and stream.
     Accepted { kind: StreamKind, stream: u32 },
     /// It is no packet. The word is where no packet goes on so.
@@ -31,8 +34,28 @@ pub(crate) enum Judgement {
     TooLarge,
 }
 
+/// What is judged of a packet.
+pub fn accepted(packet: &Packet<'_>) -> Judgement
+    ensures { result ≡ accepted (value_of packet.now) }
+{
+    match packet {
+        Packet::Data(rec) => Judgement::Accepted {
+            kind: StreamKind::Data,
+            stream: rec.prologue.stream,
+        },
+        Packet::Context(rec) => Judgement::Accepted {
+            kind: StreamKind::Context,
+            stream: rec.prologue.stream,
+        },
+        Packet::Version(rec) => Judgement::Accepted {
+            kind: StreamKind::Version,
+            stream: rec.prologue.stream,
+        },
+    }
+}
+
 /// Puts the line of the frame with this number behind the text.
-pub(crate) fn push_line(out: &mut TextBuffer, number: u64, judgement: Judgement)
+pub fn push_line(out: &mut TextBuffer, number: u64, judgement: Judgement)
     requires { length out.old + 64 ≤ 67584 }
     ensures text { out.new ≡ out.old ++ line number judgement }
     ensures length { length out.new ≤ length out.old + 64 }
@@ -75,7 +98,7 @@ fn acceptance_of(kind: StreamKind) -> &'static [u8]
 }
 
 /// Puts the last line behind the text.
-pub(crate) fn push_counts(out: &mut TextBuffer, frames: u64, accepted: u64)
+pub fn push_counts(out: &mut TextBuffer, frames: u64, accepted: u64)
     requires room { length out.old + 96 ≤ 67584 }
     requires accepted { accepted ≤ frames }
     ensures text { out.new ≡ out.old ++ counts frames accepted }

@@ -5,7 +5,7 @@ ghost use Rattle.difi_context.specs.Context.{field_of};
 ghost use Rattle.vrt_words.specs.Words.{words_of, bits};
 ghost use Rattle.difi_data.specs.Data.{packet_of};
 ghost use Rattle.difi_packet.specs.Packet.{value_of};
-ghost use Rattle.difi_cmd.specs.Details.{indented, time, common, changes, field_line, data_details, context_details, version, version_details, details, under};
+ghost use Rattle.difi_texts.specs.Details.{indented, time, common, changes, field_line, data_details, context_details, version, version_details, details, under};
 
 use crate::lines::Listing;
 use crate::text_buffer::TextBuffer;
@@ -19,7 +19,7 @@ use vrt_header::Prologue;
 use vrt_words::bits_of;
 
 /// Puts behind the text what a listing tells of an accepted packet under the line of its frame.
-pub(crate) fn push_under(alloc: Global, out: &mut TextBuffer, listing: Listing, packet: &Packet<'_>)
+pub fn push_under(alloc: Global, out: &mut TextBuffer, listing: Listing, packet: &Packet<'_>)
     requires { length out.old + 1400 ≤ 67584 }
     ensures text { out.new ≡ out.old ++ under listing (value_of packet.now) }
     ensures length { length out.new ≤ length out.old + 1400 }

@@ -1,10 +1,10 @@
 use Rattle.std.proofs.Common.{◌≡◌, ◌<◌, ◌^◌, ℕ, List, subst, sym, arith}
 use Rattle.vrt_words.specs.Words.{AreWords}
 use Rattle.vrt_fields.specs.declared.field.Field.{Field}
-use Rattle.vrt_fields.specs.declared.field.Field.TheVariants.{ReferencePoint, Bandwidth, IfReference, RfReference, IfOffset, ReferenceLevel, Gain, SampleRate, TimeAdjustment, Calibration, State, Format}
+use Rattle.vrt_fields.specs.declared.field.Field.TheVariants.{ReferencePoint, ReferenceLevel, Gain, Calibration, State}
 use Rattle.vrt_fields.specs.Field.{width_of}
 use Rattle.difi_context.specs.Context.{field_of}
-use Rattle.difi_cmd.proofs.details.push_field.Goals as goal
+use Rattle.difi_texts.proofs.details.push_field.Goals as goal
 
 one_word : (fields : List ℕ) (field : Field) → AreWords fields → width_of field ≡ 1 → field_of fields field < 2 ^ 32
 one_word fields ReferencePoint are h = are 0
