@@ -11,10 +11,3 @@ regrouped_3 old a b c = simp append_assoc
 pub three_behind : (old x y z a b c : List ℕ) → x ≡ old ++ a → y ≡ x ++ b → z ≡ y ++ c → z ≡ old ++ (a ++ b ++ c)
 three_behind old x y z a b c p q r =
     r ∙ ap (λ l. l ++ c) q ∙ ap (λ l. (l ++ b) ++ c) p ∙ regrouped_3 old a b c
-
-regrouped_4 : (old a b c d : List ℕ) → (((old ++ a) ++ b) ++ c) ++ d ≡ old ++ (a ++ b ++ c ++ d)
-regrouped_4 old a b c d = simp append_assoc
-
-pub four_behind : (old x y z w a b c d : List ℕ) → x ≡ old ++ a → y ≡ x ++ b → z ≡ y ++ c → w ≡ z ++ d → w ≡ old ++ (a ++ b ++ c ++ d)
-four_behind old x y z w a b c d p q r s =
-    s ∙ ap (λ l. l ++ d) r ∙ ap (λ l. (l ++ c) ++ d) q ∙ ap (λ l. ((l ++ b) ++ c) ++ d) p ∙ regrouped_4 old a b c d

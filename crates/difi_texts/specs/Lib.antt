@@ -1,3 +1,4 @@
 pub mod Lines
 pub mod Details
+pub mod CommandDetails
 pub mod Accounts

@@ -1,9 +1,10 @@
 ghost use Rattle.std.specs.Prelude.{◌≡◌, ◌≤◌, ◌+◌, ◌++◌, length};
 ghost use Rattle.difi_packet.specs.Packet.{value_of};
-ghost use Rattle.difi_texts.specs.Accounts.{accepted};
+ghost use Rattle.difi_texts.specs.Accounts.{accepted, accepted_ack};
 ghost use Rattle.difi_texts.specs.Lines.{acceptance, line, outcome, counts};
 
 use crate::text_buffer::TextBuffer;
+use ack_codec::Ack;
 use difi_packet::Packet;
 
 /// What is told of the frames of a record.
@@ -15,19 +16,32 @@ pub enum Listing {
     Show,
 }
 
-/// The kinds of packet that converters send.
+/// The kinds of packet.
 #[derive(Clone, Copy, Debug, PartialEq, Eq)]
-pub enum StreamKind {
+pub enum PacketKind {
+    /// Samples of a signal.
     Data,
+    /// What a converter says of the signal.
     Context,
+    /// Which versions a converter speaks.
     Version,
+    /// A command.
+    Control,
+    /// A cancellation of a command.
+    Cancel,
+    /// An acknowledgement of a command's validation.
+    AckV,
+    /// An acknowledgement of a command's execution.
+    AckX,
+    /// An answer to a query of the state.
+    AckS,
 }
 
 /// What is judged of a datagram.
 #[derive(Clone, Copy, Debug, PartialEq, Eq)]
 pub enum Judgement {
     /// It is a packet of this kind and stream.
-    Accepted { kind: StreamKind, stream: u32 },
+    Accepted { kind: PacketKind, stream: u32 },
     /// It is no packet. The word is where no packet goes on so.
     Refused { word: u32 },
     /// It has more words than the record allows.
@@ -40,18 +54,30 @@ pub fn accepted(packet: &Packet<'_>) -> Judgement
 {
     match packet {
         Packet::Data(rec) => Judgement::Accepted {
-            kind: StreamKind::Data,
+            kind: PacketKind::Data,
             stream: rec.prologue.stream,
         },
         Packet::Context(rec) => Judgement::Accepted {
-            kind: StreamKind::Context,
+            kind: PacketKind::Context,
             stream: rec.prologue.stream,
         },
         Packet::Version(rec) => Judgement::Accepted {
-            kind: StreamKind::Version,
+            kind: PacketKind::Version,
             stream: rec.prologue.stream,
         },
     }
+}
+
+/// What is judged of an acknowledgement.
+pub(crate) fn accepted_ack(packet: &Ack) -> Judgement
+    ensures { result ≡ accepted_ack packet.now }
+{
+    let (kind, stream) = match packet {
+        Ack::V(report) => (PacketKind::AckV, report.prologue.stream),
+        Ack::X(report) => (PacketKind::AckX, report.prologue.stream),
+        Ack::S(state) => (PacketKind::AckS, state.prologue.stream),
+    };
+    Judgement::Accepted { kind, stream }
 }
 
 /// Puts the line of the frame with this number behind the text.
@@ -86,14 +112,19 @@ fn push_outcome(out: &mut TextBuffer, judgement: Judgement)
 }
 
 // What a line says of an accepted packet in front of its stream.
-fn acceptance_of(kind: StreamKind) -> &'static [u8]
+fn acceptance_of(kind: PacketKind) -> &'static [u8]
     ensures text { result.now ≡ acceptance kind }
     ensures length { length result.now ≤ 19 }
 {
     match kind {
-        StreamKind::Data => b" ok data stream ",
-        StreamKind::Context => b" ok context stream ",
-        StreamKind::Version => b" ok version stream ",
+        PacketKind::Data => b" ok data stream ",
+        PacketKind::Context => b" ok context stream ",
+        PacketKind::Version => b" ok version stream ",
+        PacketKind::Control => b" ok control stream ",
+        PacketKind::Cancel => b" ok cancel stream ",
+        PacketKind::AckV => b" ok ackv stream ",
+        PacketKind::AckX => b" ok ackx stream ",
+        PacketKind::AckS => b" ok acks stream ",
     }
 }
 

@@ -14,6 +14,6 @@ one_word fields Calibration are h = are 15
 one_word fields State are h = are 16
 one_word fields field are h = absurd (omega arith)
 
-pub push_field-requires-clause-fits : goal.push_field-requires-clause-fits
-push_field-requires-clause-fits c = λ h.
+pub push_field_line-requires-clause-fits : goal.push_field_line-requires-clause-fits
+push_field_line-requires-clause-fits c = λ h.
     subst (λ n. n < 2 ^ 32) (sym c.requires.value) (one_word c.args.words.now c.args.field (λ k. omega (arith, c.type_inv.words k)) h)
