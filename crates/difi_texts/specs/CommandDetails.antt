@@ -15,7 +15,7 @@ use Rattle.ack_codec.specs.declared.ack.AckReport.{AckReport}
 use Rattle.ack_codec.specs.declared.ack.AckState.{AckState}
 use Rattle.ack_codec.specs.declared.ack.Ack.{Ack}
 use Rattle.ack_codec.specs.declared.ack.Ack.TheVariants.{V, X, S}
-use Rattle.difi_texts.specs.Details.{indented, common}
+use Rattle.difi_texts.specs.Prologue.{indented, common}
 
 -- a line of a name and a word
 abbrev pub word_line : List ℕ → ℕ → List ℕ

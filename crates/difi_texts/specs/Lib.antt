@@ -1,4 +1,5 @@
 pub mod Lines
-pub mod Details
+pub mod Prologue
 pub mod CommandDetails
+pub mod Details
 pub mod Accounts

@@ -3,7 +3,7 @@ ghost use Rattle.vrt_fields.specs.Field.{bit_of, fields_in_order};
 ghost use Rattle.vrt_fields.specs.FieldSet.{FitsField, index_of};
 ghost use Rattle.vrt_fields.specs.Text.{hexadecimal};
 ghost use Rattle.cam_field.specs.Spelling.{word_of_cam};
-ghost use Rattle.difi_texts.specs.Details.{indented};
+ghost use Rattle.difi_texts.specs.Prologue.{indented};
 ghost use Rattle.difi_texts.specs.CommandDetails.{word_line, spaced, identity, command_lines, front_lines};
 ghost use Rattle.difi_texts.specs.CommandDetails.{line_if, set_line, set_lines, content, control_details, cancel_details};
 ghost use Rattle.difi_texts.specs.CommandDetails.{response_line, response_lines, report_details, state_details, ack_details};

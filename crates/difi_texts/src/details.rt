@@ -6,7 +6,8 @@ ghost use Rattle.difi_context.specs.Context.{field_of};
 ghost use Rattle.vrt_words.specs.Words.{words_of, bits};
 ghost use Rattle.difi_data.specs.Data.{packet_of};
 ghost use Rattle.difi_packet.specs.Packet.{value_of};
-ghost use Rattle.difi_texts.specs.Details.{indented, time, common, changes, field_line, data_details, context_details, version, version_details, details, under};
+ghost use Rattle.difi_texts.specs.Prologue.{indented, time, common};
+ghost use Rattle.difi_texts.specs.Details.{changes, field_line, data_details, context_details, version, version_details, details, under};
 
 use crate::fields::all_fields;
 use crate::lines::Listing;

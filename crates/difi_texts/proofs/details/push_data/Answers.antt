@@ -2,7 +2,7 @@ use Rattle.std.proofs.Common.{◌≡◌, ◌++◌, ◌/◌, ℕ, List, length, a
 use Rattle.std.specs.Fmt.{decimal}
 use Rattle.vrt_words.specs.Words.{words_of}
 use Rattle.vrt_words.specs.WordLaws.{length-words_of}
-use Rattle.difi_texts.specs.Details.{indented, common}
+use Rattle.difi_texts.specs.Prologue.{indented, common}
 use Rattle.difi_texts.proofs.Texts.{three_behind}
 use Rattle.difi_texts.proofs.details.push_data.Goals as goal
 
