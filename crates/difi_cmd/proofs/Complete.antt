@@ -1,5 +1,5 @@
 -- Where no read and no write failed, the bytes decide the status.
-use Rattle.std.proofs.Common.{◌≡◌, ℕ, ◌+◌, ◌-◌, ◌≤◌, ◌<◌, ◌⊎◌, List, [], ◌++◌, length, take, append-nil, length-append, take_all, refl, sym, ap, ◌∙◌, subst, inl, inr, arith}
+use Rattle.std.proofs.Common.{◌≡◌, ℕ, ◌+◌, ◌-◌, ◌≤◌, ◌⊎◌, List, [], ◌++◌, length, take, append-nil, length-append, take_all, refl, sym, ap, ◌∙◌, subst, inl, inr, arith}
 use Rattle.std.proofs.Math.Seq.{take-append-add}
 use Rattle.std.proofs.lemmas.List.{take-append-le}
 use Rattle.std.proofs.lemmas.Bool.{cases_order}
@@ -11,7 +11,7 @@ use Rattle.replay_form.specs.RecordLaws.{record_wrong-append}
 use Rattle.difi_cmd.specs.declared.status.Status.{Status}
 use Rattle.difi_cmd.specs.declared.status.Status.TheVariants.{Done, Usage, ReadFault, WriteFault, Memory, BadRecord, TooLong}
 use Rattle.difi_cmd.specs.declared.words.Line.{Line}
-use Rattle.difi_cmd.specs.Outcome.{HasNoFault, HasFaultAt, IsBad, IsBadSoFar, IsLonger, IsWhole, IsVerdict, Reads, TakesTooMany, TakesBad, WritesAll, WritesFront, IsOutcome}
+use Rattle.difi_cmd.specs.Outcome.{HasNoFault, HasFaultAt, IsBad, IsBadSoFar, IsLonger, IsWhole, IsVerdict, IsOutcome}
 
 told_all : (bytes taken : List ℕ) (left : Option (List ℕ)) → Consumes (Some bytes) left taken → IsAtEnd left → taken ≡ bytes
 told_all bytes taken None p e = absurd p

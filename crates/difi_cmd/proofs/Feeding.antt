@@ -13,9 +13,9 @@ use Rattle.replay_form.specs.declared.event.RecordFault.{RecordFault}
 use Rattle.replay_form.specs.declared.event.Event.{Event}
 use Rattle.replay_form.specs.declared.event.Event.TheVariants as events
 use Rattle.replay_form.specs.declared.record_head.RecordHead.{RecordHead}
-use Rattle.difi_cmd.specs.declared.lines.Listing.{Listing}
+use Rattle.difi_texts.specs.declared.lines.Listing.{Listing}
 use Rattle.difi_cmd.specs.declared.report.Report.{Report}
-use Rattle.difi_cmd.specs.Lines.{Account, entries}
+use Rattle.difi_texts.specs.Lines.{Account, entries}
 use Rattle.difi_cmd.specs.Text.{AreAccounts, IsPart, HasFrames}
 use Rattle.difi_cmd.specs.Outcome.{HasNoFault, HasFaultAt}
 use Rattle.difi_cmd.specs.Progress.{IsSent, IsReporting}

@@ -2,8 +2,8 @@
 use Rattle.std.proofs.Common.{◌≡◌, ◌≢◌, ◌∙◌, ℕ, ap₂, true, false, List, [], ◌∷◌, drop, Option, Some, None, String, codes, map, string_bytes, refl, sym, subst, All}
 use Rattle.std.specs.List.{list_any}
 use Rattle.std.proofs.lemmas.List.Elements.{All-cons, All-nil}
-use Rattle.difi_cmd.specs.declared.lines.Listing.{Listing}
-use Rattle.difi_cmd.specs.declared.lines.Listing.TheVariants.{Check, Show}
+use Rattle.difi_texts.specs.declared.lines.Listing.{Listing}
+use Rattle.difi_texts.specs.declared.lines.Listing.TheVariants.{Check, Show}
 use Rattle.difi_cmd.specs.declared.words.Line.{Line}
 use Rattle.difi_cmd.specs.LineOfWords.{Asks, IsMaxBytes, IsNamedFirst, Text, is_stray, word_of}
 use Rattle.difi_cmd.proofs.ClapOptions.{neither_first, neither_second}

@@ -1,23 +1,21 @@
 -- Between two reads, and what a run comes to.
-use Rattle.std.proofs.Common.{◌≡◌, ℕ, ◌+◌, ◌-◌, ◌<◌, ◌≤◌, ◌^◌, ◌⊎◌, inl, inr, min, Bool, false, List, [], ◌++◌, length, take, Option, None, refl, sym, ap, ◌∙◌, subst, append-nil, length-append, take_all, arith}
-use Rattle.std.specs.Prelude.{Ok, Err}
-use Rattle.std.specs.Io.KnownBytes.{Consumes, IsAtEnd, Appends, Keeps}
+use Rattle.std.proofs.Common.{◌≡◌, ℕ, ◌+◌, ◌-◌, ◌<◌, ◌≤◌, ◌^◌, inl, inr, min, false, List, [], ◌++◌, length, take, Option, refl, sym, ap, ◌∙◌, subst, append-nil, length-append, take_all, arith}
+use Rattle.std.specs.Prelude.{Err}
+use Rattle.std.specs.Io.KnownBytes.{Consumes, IsAtEnd, Keeps}
 use Rattle.std.proofs.KnownBytes.{Consumes-trans, Consumes-kept, Consumes-nil, Appends-nil}
 use Rattle.std.proofs.Math.Seq.{take-append-add}
 use Rattle.std.proofs.lemmas.List.{take-take, length-take-le, length-take}
 use Rattle.std.proofs.lemmas.Bool.{cases_order}
-use Rattle.difi_io.specs.Faults.{Rose, Rose-later}
 use Rattle.replay_form.specs.Reading.{Reading, IsFresh}
 use Rattle.replay_form.specs.ReadingLaws.{fresh_stands}
-use Rattle.replay_form.specs.Record.{EndsInside}
-use Rattle.difi_cmd.specs.declared.lines.Listing.{Listing}
+use Rattle.difi_texts.specs.declared.lines.Listing.{Listing}
 use Rattle.difi_cmd.specs.declared.words.Line.{Line}
 use Rattle.difi_cmd.specs.declared.report.Report.{Report}
 use Rattle.difi_cmd.specs.declared.status.Status.{Status}
 use Rattle.difi_cmd.specs.declared.status.Status.TheVariants.{Done, Usage, ReadFault, WriteFault, Memory, BadRecord, TooLong}
-use Rattle.difi_cmd.specs.Lines.{entries}
-use Rattle.difi_cmd.specs.Text.{IsPart, IsOutput}
-use Rattle.difi_cmd.specs.Outcome.{HasNoFault, HasFaultAt, IsBadSoFar, IsLonger, Reads, TakesTooMany, TakesBad, WritesAll, WritesFront, IsTextSoFar, IsOutcome}
+use Rattle.difi_texts.specs.Lines.{entries}
+use Rattle.difi_cmd.specs.Text.{IsPart}
+use Rattle.difi_cmd.specs.Outcome.{HasNoFault, HasFaultAt, Reads, TakesTooMany, IsOutcome}
 use Rattle.difi_cmd.specs.Steps.{IsStanding, IsCounted, IsAlong, IsTold, IsEnded}
 use Rattle.difi_cmd.proofs.Texts.{sent_whole}
 use Rattle.difi_cmd.proofs.Feeding.{place_of, no_fault, part_so_far}

@@ -1,4 +1,4 @@
--- Texts behind one another, and on their way to a sink.
+-- Texts on their way to a sink.
 use Rattle.std.proofs.Common.{◌≡◌, ℕ, suc, ◌+◌, ◌≤◌, Bool, true, false, List, [], ◌∷◌, ◌++◌, length, take, refl, sym, ap, ◌∙◌, subst, append_assoc, append-nil, length-append, cond, arith}
 use Rattle.std.specs.Prelude.{count_by, Option, Result, Ok, Err, OnOk, OnErr, is_err}
 use Rattle.std.specs.Io.KnownBytes.{Appends}
@@ -9,29 +9,11 @@ use Rattle.std.proofs.lemmas.List.Sums.{sum_by-append}
 use Rattle.difi_io.specs.Faults.{HasCause, Rose-later}
 use Rattle.replay_form.specs.FrameFields.{Frame}
 use Rattle.replay_form.specs.declared.record_head.RecordHead.{RecordHead}
-use Rattle.difi_cmd.specs.declared.lines.Listing.{Listing}
+use Rattle.difi_texts.specs.declared.lines.Listing.{Listing}
 use Rattle.difi_cmd.specs.declared.report.Report.{Report}
-use Rattle.difi_cmd.specs.Lines.{Account, entry, entries, counts, summary, is_accepted}
+use Rattle.difi_texts.specs.Lines.{Account, entry, entries, counts, summary, is_accepted}
 use Rattle.difi_cmd.specs.Text.{IsAccount, AreAccounts}
 use Rattle.difi_cmd.specs.Progress.{IsCutOff, IsSent, IsReporting, IsNoted}
-
-pub two_behind : (old mid new front back : List ℕ) → mid ≡ old ++ front → new ≡ mid ++ back → new ≡ old ++ (front ++ back)
-two_behind old mid new front back first second =
-    second ∙ ap (λ l. l ++ back) first ∙ append_assoc old front back
-
-regrouped_3 : (old a b c : List ℕ) → ((old ++ a) ++ b) ++ c ≡ old ++ (a ++ b ++ c)
-regrouped_3 old a b c = simp append_assoc
-
-pub three_behind : (old x y z a b c : List ℕ) → x ≡ old ++ a → y ≡ x ++ b → z ≡ y ++ c → z ≡ old ++ (a ++ b ++ c)
-three_behind old x y z a b c p q r =
-    r ∙ ap (λ l. l ++ c) q ∙ ap (λ l. (l ++ b) ++ c) p ∙ regrouped_3 old a b c
-
-regrouped_4 : (old a b c d : List ℕ) → (((old ++ a) ++ b) ++ c) ++ d ≡ old ++ (a ++ b ++ c ++ d)
-regrouped_4 old a b c d = simp append_assoc
-
-pub four_behind : (old x y z w a b c d : List ℕ) → x ≡ old ++ a → y ≡ x ++ b → z ≡ y ++ c → w ≡ z ++ d → w ≡ old ++ (a ++ b ++ c ++ d)
-four_behind old x y z w a b c d p q r s =
-    s ∙ ap (λ l. l ++ d) r ∙ ap (λ l. (l ++ c) ++ d) q ∙ ap (λ l. ((l ++ b) ++ c) ++ d) p ∙ regrouped_4 old a b c d
 
 count_by-append : (p : Account → Bool) (told bs : List Account) → count_by p (told ++ bs) ≡ count_by p told + count_by p bs
 count_by-append p told bs = sum_by-append (λ a. cond (p a) 1 0) told bs

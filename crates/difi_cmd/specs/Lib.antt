@@ -1,6 +1,4 @@
 pub mod Status
-pub mod Lines
-pub mod Details
 pub mod Text
 pub mod TextLaws
 pub mod OneText

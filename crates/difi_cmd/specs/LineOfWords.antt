@@ -5,8 +5,8 @@ use Rattle.std.specs.Prelude.{length, map, string_bytes}
 use Rattle.std.specs.List.{flat_map, list_any}
 use Rattle.std.specs.Str.{bytes_eq}
 use Rattle.std.specs.Str.Parse.{IsNumeral, digits_value}
-use Rattle.difi_cmd.specs.declared.lines.Listing.{Listing}
-use Rattle.difi_cmd.specs.declared.lines.Listing.TheVariants.{Check, Show}
+use Rattle.difi_texts.specs.declared.lines.Listing.{Listing}
+use Rattle.difi_texts.specs.declared.lines.Listing.TheVariants.{Check, Show}
 use Rattle.difi_cmd.specs.declared.words.Line.{Line}
 
 abbrev pub Text : Type 0

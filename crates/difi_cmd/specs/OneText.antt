@@ -1,5 +1,5 @@
 -- Bytes have one text for each listing.
-use Rattle.std.proofs.Common.{◌≡◌, ℕ, zero, suc, ◌+◌, ◌*◌, ◌<◌, ◌≤◌, ◌⊎◌, inl, inr, Bool, List, [], ◌∷◌, ◌++◌, length, take, drop, get_or, refl, sym, ap, ◌∙◌, subst, append_assoc, append-nil, length-append, arith}
+use Rattle.std.proofs.Common.{◌≡◌, ℕ, suc, ◌+◌, ◌*◌, ◌<◌, ◌≤◌, ◌⊎◌, inl, inr, List, [], ◌∷◌, ◌++◌, length, take, drop, get_or, refl, sym, ap, ◌∙◌, subst, append_assoc, arith}
 use Rattle.std.proofs.Math.Seq.{take-append_seam, drop-append_seam}
 use Rattle.vrt_time.specs.Time.{TimeStamp}
 use Rattle.replay_form.specs.Numbers.{number_at, AreNumbers}
@@ -8,14 +8,14 @@ use Rattle.replay_form.specs.Head.{IsHead, IsIdentity}
 use Rattle.cam_field.specs.declared.ident.Ident.{Ident}
 use Rattle.cam_field.specs.declared.ident.Ident.TheVariants as idents
 use Rattle.replay_form.specs.RecordLaws.{nothing_open}
-use Rattle.replay_form.specs.HeadFields.{IsHeadPart, IsHeadWrongAt, IsHeadOpen, IsWholeHead, AreRight, is_second, head_size, route_size, field_count, route_fields}
-use Rattle.replay_form.specs.FrameFields.{Frame, IsFrame, IsFramePart, IsFrameWrongAt, IsWholeFrame, AreFrameRight, frame_size, frame_in}
+use Rattle.replay_form.specs.HeadFields.{IsWholeHead, AreRight, is_second, head_size, route_size, field_count, route_fields}
+use Rattle.replay_form.specs.FrameFields.{Frame, IsFramePart, IsFrameWrongAt, IsWholeFrame, frame_size, frame_in}
 use Rattle.replay_form.specs.PrefixLaws.{is_second-append, right-append, frame_right-append}
-use Rattle.replay_form.specs.Record.{AreFrames, first_stamp, last_stamp, IsCut, IsRecord}
+use Rattle.replay_form.specs.Record.{AreFrames, first_stamp, last_stamp, IsRecord}
 use Rattle.replay_form.specs.declared.record_head.RecordHead.{RecordHead}
-use Rattle.difi_cmd.specs.declared.lines.Listing.{Listing}
-use Rattle.difi_cmd.specs.Lines.{Account, entries, summary}
-use Rattle.difi_cmd.specs.Text.{AreAccounts, HasNoHead, IsLeftOver, HasFrames, IsPart, IsOutput}
+use Rattle.difi_texts.specs.declared.lines.Listing.{Listing}
+use Rattle.difi_texts.specs.Lines.{Account, entries, summary}
+use Rattle.difi_cmd.specs.Text.{AreAccounts, HasNoHead, HasFrames, IsPart, IsOutput}
 use Rattle.difi_cmd.specs.TextLaws.{one_accounts}
 
 -- the front of a list and what stands behind it are determined by the front's length

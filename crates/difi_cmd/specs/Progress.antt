@@ -5,7 +5,7 @@ use Rattle.difi_io.specs.Faults.{Rose}
 use Rattle.replay_form.specs.FrameFields.{Frame}
 use Rattle.replay_form.specs.declared.record_head.RecordHead.{RecordHead}
 use Rattle.difi_cmd.specs.declared.report.Report.{Report}
-use Rattle.difi_cmd.specs.Lines.{Account, entry, entries, is_accepted}
+use Rattle.difi_texts.specs.Lines.{Account, entry, entries, is_accepted}
 use Rattle.difi_cmd.specs.Text.{AreAccounts}
 
 -- a first part of the text was appended since the start, and a write failed

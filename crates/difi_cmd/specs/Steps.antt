@@ -1,15 +1,15 @@
 -- How far a run has come, between two reads.
-use Rattle.std.specs.Prelude.{◌≡◌, ℕ, ◌+◌, ◌≤◌, ◌⊎◌, List, length, take, Option, Some, None, Result, Ok, Err}
+use Rattle.std.specs.Prelude.{◌≡◌, ℕ, ◌+◌, ◌≤◌, ◌⊎◌, List, length, take, Option, None, Result, Ok, Err}
 use Rattle.std.specs.Io.KnownBytes.{Appends}
 use Rattle.difi_io.specs.Faults.{Rose}
 use Rattle.replay_form.specs.FrameFields.{Frame}
 use Rattle.replay_form.specs.Reading.{Reading, StandsFor, begun}
 use Rattle.replay_form.specs.declared.event.RecordFault.{RecordFault}
-use Rattle.difi_cmd.specs.declared.lines.Listing.{Listing}
+use Rattle.difi_texts.specs.declared.lines.Listing.{Listing}
 use Rattle.difi_cmd.specs.declared.report.Report.{Report}
 use Rattle.difi_cmd.specs.declared.status.Status.{Status}
 use Rattle.difi_cmd.specs.declared.status.Status.TheVariants.{Done, Usage, ReadFault, WriteFault, Memory, BadRecord, TooLong}
-use Rattle.difi_cmd.specs.Lines.{Account}
+use Rattle.difi_texts.specs.Lines.{Account}
 use Rattle.replay_form.specs.Record.{EndsInside}
 use Rattle.difi_cmd.specs.Text.{IsPart, IsOutput}
 use Rattle.difi_cmd.specs.Outcome.{HasFaultAt}

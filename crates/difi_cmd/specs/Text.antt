@@ -1,23 +1,16 @@
 -- What check and show write of a record: a line for each frame, with show the packet's lines under it, and a last one.
-use Rattle.std.specs.Prelude.{◌≡◌, ℕ, ◌*◌, ◌<◌, ◌≤◌, ◌⊎◌, List, [], ◌∷◌, ◌++◌, length, map}
+use Rattle.std.specs.Prelude.{◌≡◌, ℕ, ◌*◌, ◌<◌, ◌≤◌, ◌⊎◌, List, [], ◌∷◌, ◌++◌, length}
 use Rattle.vrt_words.specs.Begins.{IsDatagram, IsRefused}
-use Rattle.difi_packet.specs.Packet.{PacketValue, DataValue, ContextValue, VersionValue, IsPacket}
+use Rattle.difi_packet.specs.Packet.{PacketValue, IsPacket}
 use Rattle.replay_form.specs.HeadFields.{IsHeadPart, IsHeadWrongAt}
 use Rattle.replay_form.specs.FrameFields.{Frame, IsFramePart, IsFrameWrongAt}
 use Rattle.replay_form.specs.Record.{first_stamp, last_stamp, IsCut, IsRecord}
 use Rattle.replay_form.specs.declared.record_head.RecordHead.{RecordHead}
-use Rattle.difi_cmd.specs.declared.lines.Judgement.{Judgement}
-use Rattle.difi_cmd.specs.declared.lines.Judgement.TheVariants.{Accepted, Refused, TooLarge}
-use Rattle.difi_cmd.specs.declared.lines.StreamKind.TheVariants.{Data, Context, Version}
-use Rattle.difi_cmd.specs.declared.lines.Listing.{Listing}
-use Rattle.difi_cmd.specs.Lines.{Account, entries, summary}
-use Rattle.difi_cmd.specs.Details.{under}
-
--- a packet of this kind and stream
-abbrev pub accepted : PacketValue → Judgement
-accepted (DataValue packet) = Accepted Data packet.prologue.stream
-accepted (ContextValue rec) = Accepted Context rec.prologue.stream
-accepted (VersionValue rec) = Accepted Version rec.prologue.stream
+use Rattle.difi_texts.specs.declared.lines.Judgement.{Judgement}
+use Rattle.difi_texts.specs.declared.lines.Judgement.TheVariants.{Accepted, Refused, TooLarge}
+use Rattle.difi_texts.specs.declared.lines.Listing.{Listing}
+use Rattle.difi_texts.specs.Lines.{Account, entries, summary}
+use Rattle.difi_texts.specs.Accounts.{account_of, turned_away}
 
 -- the datagram is this packet, and has no more words than the header allows
 abbrev pub IsAccepted : RecordHead → List ℕ → PacketValue → Type 0
@@ -29,13 +22,6 @@ IsTurnedAway head datagram (Accepted kind stream) = ⊥
 IsTurnedAway head datagram (Refused word) =
     (length datagram ≤ 4 * head.max_words) × IsRefused (IsPacket head.profile) datagram word
 IsTurnedAway head datagram TooLarge = 4 * head.max_words < length datagram
-
--- what is told of a packet, and of what is turned away
-abbrev pub account_of : Listing → PacketValue → Account
-account_of listing value = record { judgement = accepted value; under = under listing value }
-
-abbrev pub turned_away : Judgement → Account
-turned_away judgement = record { judgement = judgement; under = [] }
 
 -- what is told of a datagram
 abbrev pub IsAccount : Listing → RecordHead → List ℕ → Account → Type 0

@@ -1,17 +1,17 @@
 -- Each frame has one account.
-use Rattle.std.proofs.Common.{◌≡◌, ℕ, ◌*◌, ◌≤◌, length, List, [], ◌∷◌, ◌++◌, refl, inl, inr, sym, ap, ◌∙◌, subst, arith}
+use Rattle.std.proofs.Common.{◌≡◌, ℕ, List, [], ◌∷◌, refl, inl, inr, sym, ap, ◌∙◌, arith}
 use Rattle.vrt_words.specs.Words.{words_of}
-use Rattle.vrt_words.specs.Begins.{IsDatagram}
 use Rattle.vrt_words.specs.BeginLaws.{one_place}
-use Rattle.difi_packet.specs.Packet.{PacketValue, DataValue, ContextValue, VersionValue, IsPacket}
+use Rattle.difi_packet.specs.Packet.{PacketValue, IsPacket}
 use Rattle.difi_packet.specs.PacketLaws.{one_packet}
 use Rattle.replay_form.specs.FrameFields.{Frame}
 use Rattle.replay_form.specs.declared.record_head.RecordHead.{RecordHead}
-use Rattle.difi_cmd.specs.declared.lines.Judgement.{Judgement}
-use Rattle.difi_cmd.specs.declared.lines.Judgement.TheVariants.{Accepted, Refused, TooLarge}
-use Rattle.difi_cmd.specs.declared.lines.Listing.{Listing}
-use Rattle.difi_cmd.specs.Lines.{Account}
-use Rattle.difi_cmd.specs.Text.{IsAccepted, IsTurnedAway, IsAccount, AreAccounts, account_of, turned_away}
+use Rattle.difi_texts.specs.declared.lines.Judgement.{Judgement}
+use Rattle.difi_texts.specs.declared.lines.Judgement.TheVariants.{Accepted, Refused, TooLarge}
+use Rattle.difi_texts.specs.declared.lines.Listing.{Listing}
+use Rattle.difi_texts.specs.Lines.{Account}
+use Rattle.difi_cmd.specs.Text.{IsAccepted, IsTurnedAway, IsAccount, AreAccounts}
+use Rattle.difi_texts.specs.Accounts.{account_of, turned_away}
 
 -- a datagram has one account
 one_turned : (head : RecordHead) (d : List ℕ) (j k : Judgement) → IsTurnedAway head d j → IsTurnedAway head d k → j ≡ k

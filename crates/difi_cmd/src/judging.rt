@@ -1,9 +1,9 @@
 ghost use Rattle.std.specs.Prelude.{◌≡◌, IfOk, IfErr};
 ghost use Rattle.difi_packet.specs.Packet.{value_of};
-ghost use Rattle.difi_cmd.specs.Text.{IsAccepted, IsTurnedAway, accepted};
+ghost use Rattle.difi_cmd.specs.Text.{IsAccepted, IsTurnedAway};
 
-use crate::lines::{Judgement, StreamKind};
 use difi_packet::{Packet, decode};
+use difi_texts::Judgement;
 use replay_form::RecordHead;
 
 /// The packet that the datagram of a frame is, or why it is turned away.
@@ -17,25 +17,5 @@ pub(crate) fn judge<'a>(head: &RecordHead, datagram: &'a [u8]) -> Result<Packet<
     match decode(head.profile, datagram) {
         Ok(packet) => Ok(packet),
         Err(place) => Err(Judgement::Refused { word: place.word }),
-    }
-}
-
-/// What is judged of a packet.
-pub(crate) fn accepted(packet: &Packet<'_>) -> Judgement
-    ensures { result ≡ accepted (value_of packet.now) }
-{
-    match packet {
-        Packet::Data(rec) => Judgement::Accepted {
-            kind: StreamKind::Data,
-            stream: rec.prologue.stream,
-        },
-        Packet::Context(rec) => Judgement::Accepted {
-            kind: StreamKind::Context,
-            stream: rec.prologue.stream,
-        },
-        Packet::Version(rec) => Judgement::Accepted {
-            kind: StreamKind::Version,
-            stream: rec.prologue.stream,
-        },
     }
 }

@@ -1,5 +1,5 @@
 ghost use Rattle.std.specs.Prelude.{◌≡◌, ℕ, List};
-ghost use Rattle.difi_cmd.specs.declared.lines.Listing.{Listing};
+ghost use Rattle.difi_texts.specs.declared.lines.Listing.{Listing};
 ghost use Rattle.difi_cmd.specs.Text.{IsPart, IsOutput};
 
 /// Laws that a proof can cite: bytes have one text for each listing, as far as they go and as a whole

@@ -2,10 +2,8 @@
 //! that it ends with.
 #![tactic(auto)]
 
-mod details;
 mod judging;
 mod laws;
-mod lines;
 mod list;
 mod reading;
 mod report;
@@ -13,7 +11,6 @@ mod run;
 mod status;
 #[cfg(test)]
 mod tests;
-mod text_buffer;
 mod transfer;
 mod words;
 #[cfg(test)]

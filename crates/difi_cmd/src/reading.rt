@@ -2,7 +2,7 @@ ghost use Rattle.std.specs.Prelude.{◌≡◌, ◌≢◌, ℕ, ◌+◌, ◌<◌,
 ghost use Rattle.replay_form.specs.FrameFields.{Frame};
 ghost use Rattle.replay_form.specs.Reading.{StandsFor, begun, frames_after, held_frame};
 ghost use Rattle.replay_form.specs.declared.event.Event.TheVariants as events;
-ghost use Rattle.difi_cmd.specs.Lines.{Account};
+ghost use Rattle.difi_texts.specs.Lines.{Account};
 ghost use Rattle.difi_cmd.specs.Progress.{IsReporting};
 ghost use Rattle.difi_cmd.specs.Steps.{IsStanding, IsFed, IsTold, IsCounted};
 

@@ -1,10 +1,8 @@
-use crate::details::push_under;
-use crate::judging::{accepted, judge};
-use crate::lines::{Judgement, Listing, push_counts, push_line};
-use crate::text_buffer::TextBuffer;
+use crate::judging::judge;
 use crate::transfer::write_all;
 use difi_io::{Failed, Sink};
 use difi_packet::Packet;
+use difi_texts::{Judgement, Listing, TextBuffer, accepted, push_counts, push_line, push_under};
 use replay_form::RecordHead;
 use std::alloc::Global;
 
@@ -30,9 +28,10 @@ impl Report {
     ghost use Rattle.difi_packet.specs.Packet.{value_of};
     ghost use Rattle.replay_form.specs.FrameFields.{Frame};
     ghost use Rattle.replay_form.specs.declared.record_head.RecordHead.{RecordHead};
-    ghost use Rattle.difi_cmd.specs.declared.lines.Judgement.{Judgement};
-    ghost use Rattle.difi_cmd.specs.Lines.{Account, entry, entries, summary, is_accepted, is_packet};
-    ghost use Rattle.difi_cmd.specs.Text.{IsAccount, account_of, turned_away};
+    ghost use Rattle.difi_texts.specs.declared.lines.Judgement.{Judgement};
+    ghost use Rattle.difi_texts.specs.Lines.{Account, entry, entries, summary, is_accepted, is_packet};
+    ghost use Rattle.difi_texts.specs.Accounts.{account_of, turned_away};
+    ghost use Rattle.difi_cmd.specs.Text.{IsAccount};
     ghost use Rattle.difi_cmd.specs.Progress.{IsSent, IsReporting, IsFinished, IsNoted};
 
     /// No frame so far.

@@ -9,9 +9,9 @@ ghost use Rattle.difi_cmd.specs.LineOfWords.{NamesListing, Text};
 ghost use Rattle.difi_cmd.specs.LineOfWords.{has_stray as has_stray_word};
 ghost use Rattle.difi_cmd.specs.LineOfWords.{is_stray as is_stray_word};
 
-use crate::lines::Listing;
 use clap::error::ErrorKind;
 use clap::{Arg, ArgAction, Command};
+use difi_texts::Listing;
 use std::alloc::Global;
 use thiserror::Error;
 

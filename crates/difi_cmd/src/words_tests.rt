@@ -1,5 +1,5 @@
-use crate::lines::Listing;
 use crate::words::{Line, WordsFault, line_of};
+use difi_texts::Listing;
 use std::alloc::{AllocError, Global};
 use std::test::Fail;
 

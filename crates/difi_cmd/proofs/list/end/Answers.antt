@@ -1,5 +1,5 @@
-use Rattle.std.proofs.Common.{◌≡◌, ℕ, List, ◌++◌, ◌⊎◌, length, refl, subst, inl, inr}
-use Rattle.difi_cmd.specs.Lines.{entries, summary}
+use Rattle.std.proofs.Common.{◌≡◌, ◌++◌, ◌⊎◌, length, refl, inl, inr}
+use Rattle.difi_texts.specs.Lines.{entries, summary}
 use Rattle.difi_cmd.proofs.Texts.{sent_whole}
 use Rattle.difi_cmd.proofs.Feeding.{part_so_far}
 use Rattle.replay_form.specs.Record.{EndsInside}

@@ -1,12 +1,10 @@
-use Rattle.std.proofs.Common.{◌≡◌, ◌++◌, ◌+◌, ◌<◌, ◌≤◌, ℕ, List, [], min, length, take, refl, sym, ap, ◌∙◌, subst, arith}
-use Rattle.std.specs.Prelude.{Option, Ok, Err}
+use Rattle.std.proofs.Common.{◌≡◌, ◌++◌, ◌+◌, ℕ, List, min, length, take, refl, ap, ◌∙◌, subst, arith}
+use Rattle.std.specs.Prelude.{Option, Err}
 use Rattle.replay_form.specs.Reading.{Reading}
-use Rattle.std.proofs.KnownBytes.{Appends-nil, Consumes-nil}
 use Rattle.difi_io.specs.Faults.{Rose-later}
-use Rattle.replay_form.specs.ReadingLaws.{fresh_stands}
 use Rattle.difi_cmd.specs.declared.report.Report.{Report}
 use Rattle.difi_cmd.specs.Steps.{IsTold, IsAlong}
-use Rattle.difi_cmd.proofs.Outcomes.{IsAtRead, begins, read_stopped, stopped, too_many, at_next, ended}
+use Rattle.difi_cmd.proofs.Outcomes.{begins, read_stopped, stopped, too_many, at_next, ended}
 use Rattle.difi_cmd.proofs.Feeding.{place_of}
 use Rattle.difi_cmd.proofs.list.read_record.Goals as goal
 

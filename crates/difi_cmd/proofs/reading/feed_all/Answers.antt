@@ -1,7 +1,7 @@
-use Rattle.std.proofs.Common.{◌≡◌, ◌<◌, ◌++◌, ◌+◌, ℕ, List, length, take, drop, sym, ap, ◌∙◌, subst, append_assoc, append-nil, length-drop, arith}
-use Rattle.difi_cmd.specs.Lines.{entries}
+use Rattle.std.proofs.Common.{◌≡◌, ◌++◌, length, take, sym, ap, ◌∙◌, subst, append_assoc, length-drop, arith}
+use Rattle.difi_texts.specs.Lines.{entries}
 use Rattle.difi_cmd.specs.Steps.{IsWrongText, IsAlong}
-use Rattle.difi_cmd.proofs.Feeding.{along_step, standing_step, split_on, length_on, some_bytes, some_taken, count_within, frame_there, place_moved, wrong_text}
+use Rattle.difi_cmd.proofs.Feeding.{along_step, standing_step, split_on, length_on, some_bytes, some_taken, count_within, place_moved, wrong_text}
 use Rattle.difi_cmd.proofs.reading.feed_all.Goals as goal
 
 pub loop-rest-smaller : goal.loop-rest-smaller

@@ -1,8 +1,8 @@
-use Rattle.std.proofs.Common.{◌≡◌, ◌+◌, ◌≤◌, ◌<◌, ◌^◌, ◌++◌, ℕ, List, length}
+use Rattle.std.proofs.Common.{◌≡◌, ◌+◌, ◌<◌, ◌++◌, ℕ, List, length}
 use Rattle.std.specs.Prelude.{Option}
 use Rattle.replay_form.specs.FrameFields.{Frame}
 use Rattle.replay_form.specs.Reading.{StandsFor}
-use Rattle.difi_cmd.specs.Lines.{Account}
+use Rattle.difi_texts.specs.Lines.{Account}
 use Rattle.difi_cmd.specs.Progress.{IsReporting}
 use Rattle.difi_cmd.specs.Steps.{IsStanding, IsCounted, IsAlong}
 use Rattle.difi_cmd.proofs.Feeding.{place_of}

@@ -1,5 +1,5 @@
-use Rattle.std.proofs.Common.{◌++◌, ◌∙◌, ℕ, List, sym, subst}
-use Rattle.difi_cmd.specs.declared.lines.Listing.{Listing}
+use Rattle.std.proofs.Common.{◌++◌, sym, subst}
+use Rattle.difi_texts.specs.declared.lines.Listing.{Listing}
 use Rattle.difi_cmd.specs.Steps.{IsWrongText}
 use Rattle.difi_cmd.specs.Text.{IsPart}
 use Rattle.difi_cmd.proofs.Texts.{sent_cut, sent_whole}

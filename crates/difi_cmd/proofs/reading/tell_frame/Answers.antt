@@ -1,8 +1,7 @@
-use Rattle.std.proofs.Common.{◌++◌, [], ◌∷◌, List, sym, ap, subst}
+use Rattle.std.proofs.Common.{◌++◌, [], ◌∷◌, sym, ap, subst}
 use Rattle.replay_form.specs.FrameFields.{Frame}
 use Rattle.replay_form.specs.Reading.{held_frame}
 use Rattle.replay_form.specs.declared.record_head.RecordHead.{RecordHead}
-use Rattle.difi_cmd.specs.Lines.{Account}
 use Rattle.difi_cmd.specs.Progress.{IsReporting}
 use Rattle.difi_cmd.proofs.reading.tell_frame.Goals as goal
 

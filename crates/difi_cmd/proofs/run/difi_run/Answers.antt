@@ -1,4 +1,4 @@
-use Rattle.std.proofs.Common.{◌≡◌, ◌⊎◌, ℕ, sym, subst}
+use Rattle.std.proofs.Common.{◌≡◌, ◌⊎◌, sym, subst}
 use Rattle.std.specs.Prelude.{IfSome}
 use Rattle.difi_cmd.specs.declared.words.Line.{Line}
 use Rattle.difi_cmd.specs.declared.status.Status.TheVariants.{Memory}

@@ -2,10 +2,10 @@
 use Rattle.std.proofs.Common.{◌++◌, ap, ◌∙◌}
 use Rattle.std.specs.Prelude.{codes}
 use Rattle.std.specs.Fmt.{decimal}
-use Rattle.difi_cmd.specs.Lines.{acceptance}
+use Rattle.difi_texts.specs.Lines.{acceptance}
 use Rattle.vrt_fields.specs.Text.{hexadecimal}
-use Rattle.difi_cmd.proofs.Texts.{two_behind}
-use Rattle.difi_cmd.proofs.lines.push_outcome.Goals as goal
+use Rattle.difi_texts.proofs.Texts.{two_behind}
+use Rattle.difi_texts.proofs.lines.push_outcome.Goals as goal
 
 pub returns-in-Accepted-clause-text : goal.returns-in-Accepted-clause-text
 returns-in-Accepted-clause-text c =

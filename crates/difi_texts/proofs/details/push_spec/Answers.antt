@@ -1,7 +1,7 @@
 use Rattle.std.proofs.Common.{◌≡◌, ◌++◌, ℕ, List, ap, ◌∙◌, append_assoc, codes}
 use Rattle.vrt_fields.specs.Text.{hexadecimal}
-use Rattle.difi_cmd.specs.Details.{indented}
-use Rattle.difi_cmd.proofs.details.push_spec.Goals as goal
+use Rattle.difi_texts.specs.Prologue.{indented}
+use Rattle.difi_texts.proofs.details.push_spec.Goals as goal
 
 whole : (old : List ℕ) (word : ℕ) → ((old ++ codes "  spec ") ++ hexadecimal word) ++ codes "\n" ≡ old ++ indented (codes "spec " ++ hexadecimal word)
 whole old word = simp append_assoc

@@ -1,12 +1,15 @@
 ghost use Rattle.std.specs.Prelude.{◌≡◌, ◌≤◌, ◌<◌, ◌+◌, ◌*◌, ◌^◌, ◌++◌, length, flat_map, codes};
 ghost use Rattle.std.specs.Fmt.{decimal};
+ghost use Rattle.vrt_fields.specs.Field.{width_of};
 ghost use Rattle.vrt_fields.specs.Text.{field_text, hexadecimal};
 ghost use Rattle.difi_context.specs.Context.{field_of};
 ghost use Rattle.vrt_words.specs.Words.{words_of, bits};
 ghost use Rattle.difi_data.specs.Data.{packet_of};
 ghost use Rattle.difi_packet.specs.Packet.{value_of};
-ghost use Rattle.difi_cmd.specs.Details.{indented, time, common, changes, field_line, data_details, context_details, version, version_details, details, under};
+ghost use Rattle.difi_texts.specs.Prologue.{indented, time, common};
+ghost use Rattle.difi_texts.specs.Details.{changes, field_line, data_details, context_details, version, version_details, details, under};
 
+use crate::fields::all_fields;
 use crate::lines::Listing;
 use crate::text_buffer::TextBuffer;
 use difi_context::ContextRec;
@@ -19,7 +22,7 @@ use vrt_header::Prologue;
 use vrt_words::bits_of;
 
 /// Puts behind the text what a listing tells of an accepted packet under the line of its frame.
-pub(crate) fn push_under(alloc: Global, out: &mut TextBuffer, listing: Listing, packet: &Packet<'_>)
+pub fn push_under(alloc: Global, out: &mut TextBuffer, listing: Listing, packet: &Packet<'_>)
     requires { length out.old + 1400 ≤ 67584 }
     ensures text { out.new ≡ out.old ++ under listing (value_of packet.now) }
     ensures length { length out.new ≤ length out.old + 1400 }
@@ -60,21 +63,7 @@ fn push_context(alloc: Global, out: &mut TextBuffer, rec: &ContextRec)
 {
     push_common(out, &rec.prologue);
     push_changes(out, rec.changed);
-    let fields = [
-        Field::ReferencePoint,
-        Field::Bandwidth,
-        Field::IfReference,
-        Field::RfReference,
-        Field::IfOffset,
-        Field::ReferenceLevel,
-        Field::Gain,
-        Field::SampleRate,
-        Field::TimeAdjustment,
-        Field::Calibration,
-        Field::State,
-        Field::Format,
-    ];
-    push_fields(alloc, out, rec, &fields);
+    push_fields(alloc, out, rec, &all_fields());
 }
 
 fn push_version(out: &mut TextBuffer, rec: &VersionRec)
@@ -88,8 +77,8 @@ fn push_version(out: &mut TextBuffer, rec: &VersionRec)
     push_version_word(out, rec.version);
 }
 
-// The lines of the prologue: its stamp and its count.
-fn push_common(out: &mut TextBuffer, prologue: &Prologue)
+/// Puts behind the text the lines of the prologue: its stamp and its count.
+pub(crate) fn push_common(out: &mut TextBuffer, prologue: &Prologue)
     requires { length out.old + 100 ≤ 67584 }
     ensures text { out.new ≡ out.old ++ common prologue.now }
     ensures length { length out.new ≤ length out.old + 100 }
@@ -158,6 +147,16 @@ fn push_fields(alloc: Global, out: &mut TextBuffer, rec: &ContextRec, fields: &[
 fn push_field(alloc: Global, out: &mut TextBuffer, words: &[u32], field: Field, value: u64)
     requires value { value ≡ field_of words.now field }
     requires room { length out.old + 83 ≤ 67584 }
+    ensures text { out.new ≡ out.old ++ indented (field_text field value) }
+    ensures length { length out.new ≤ length out.old + 83 }
+{
+    push_field_line(alloc, out, field, value);
+}
+
+/// Puts the line of a field with this value behind the text.
+pub(crate) fn push_field_line(alloc: Global, out: &mut TextBuffer, field: Field, value: u64)
+    requires room { length out.old + 83 ≤ 67584 }
+    requires fits { width_of field ≡ 1 → value < 2 ^ 32 }
     ensures text { out.new ≡ out.old ++ indented (field_text field value) }
     ensures length { length out.new ≤ length out.old + 83 }
 {

@@ -16,7 +16,7 @@ const FULL: usize = 65_536;
 
 /// A buffer for the text that is to be written next. Its room is taken once.
 #[derive(Debug, Drop)]
-pub(crate) struct TextBuffer {
+pub struct TextBuffer {
     bytes: Vec<u8>,
 }
 

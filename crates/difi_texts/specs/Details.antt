@@ -1,32 +1,18 @@
 -- What show tells of a packet, line by line, under the line of its frame.
-use Rattle.std.specs.Prelude.{ℕ, Bool, true, false, List, [], ◌++◌, length, flat_map, codes, Option, Some, None}
+use Rattle.std.specs.Prelude.{ℕ, Bool, true, false, List, [], ◌++◌, length, flat_map, codes}
 use Rattle.std.specs.Fmt.{decimal}
 use Rattle.vrt_words.specs.Words.{words_of, bits}
-use Rattle.vrt_time.specs.Time.{TimeStamp}
-use Rattle.vrt_header.specs.declared.prologue.Prologue.{Prologue}
 use Rattle.vrt_fields.specs.declared.field.Field.{Field}
 use Rattle.vrt_fields.specs.Field.{fields_in_order}
-use Rattle.vrt_fields.specs.Text.{hexadecimal, padded_decimal, field_text}
+use Rattle.vrt_fields.specs.Text.{hexadecimal, field_text}
 use Rattle.difi_data.specs.Data.{DataPacket}
 use Rattle.difi_context.specs.Context.{field_of}
 use Rattle.difi_context.specs.declared.context.ContextRec.{ContextRec}
 use Rattle.difi_version.specs.declared.version.VersionRec.{VersionRec}
+use Rattle.difi_texts.specs.Prologue.{indented, common}
 use Rattle.difi_packet.specs.Packet.{PacketValue, DataValue, ContextValue, VersionValue}
-use Rattle.difi_cmd.specs.declared.lines.Listing.{Listing}
-use Rattle.difi_cmd.specs.declared.lines.Listing.TheVariants.{Check, Show}
-
--- a line under that of a frame
-abbrev pub indented : List ℕ → List ℕ
-indented text = codes "  " ++ text ++ codes "\n"
-
--- the stamp: whole seconds, and picoseconds in twelve digits
-abbrev pub time : Option TimeStamp → List ℕ
-time (Some stamp) = codes "time " ++ decimal stamp.seconds ++ codes " s " ++ padded_decimal 12 stamp.picos ++ codes " ps"
-time None = codes "time none"
-
--- what packets of each kind have in front
-abbrev pub common : Prologue → List ℕ
-common prologue = indented (time prologue.stamp) ++ indented (codes "count " ++ decimal prologue.header.count)
+use Rattle.difi_texts.specs.declared.lines.Listing.{Listing}
+use Rattle.difi_texts.specs.declared.lines.Listing.TheVariants.{Check, Show}
 
 -- the change indicator
 abbrev pub changes : Bool → List ℕ

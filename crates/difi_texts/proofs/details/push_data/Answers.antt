@@ -1,10 +1,10 @@
-use Rattle.std.proofs.Common.{◌≡◌, ◌++◌, ◌/◌, ◌+◌, ◌*◌, ◌<◌, ◌≤◌, ℕ, List, length, ap, ◌∙◌, codes, arith}
+use Rattle.std.proofs.Common.{◌≡◌, ◌++◌, ◌/◌, ℕ, List, length, ap, ◌∙◌, codes, arith}
 use Rattle.std.specs.Fmt.{decimal}
 use Rattle.vrt_words.specs.Words.{words_of}
 use Rattle.vrt_words.specs.WordLaws.{length-words_of}
-use Rattle.difi_cmd.specs.Details.{indented, common}
-use Rattle.difi_cmd.proofs.Texts.{three_behind}
-use Rattle.difi_cmd.proofs.details.push_data.Goals as goal
+use Rattle.difi_texts.specs.Prologue.{indented, common}
+use Rattle.difi_texts.proofs.Texts.{three_behind}
+use Rattle.difi_texts.proofs.details.push_data.Goals as goal
 
 words_told : (bytes : List ℕ) → length bytes / 4 ≡ length (words_of bytes)
 words_told bytes = let e = length-words_of bytes in omega (arith, e.0, e.1)

@@ -1,7 +1,7 @@
 use Rattle.std.proofs.Common.{◌≡◌, ◌++◌, ◌+◌, ◌*◌, ◌≤◌, length, take}
 use Rattle.std.specs.Prelude.{flat_map}
-use Rattle.difi_cmd.specs.Details.{field_line}
-use Rattle.difi_cmd.proofs.details.push_fields.Given as goal
+use Rattle.difi_texts.specs.Details.{field_line}
+use Rattle.difi_texts.proofs.details.push_fields.Given as goal
 
 -- the lines of the fields in front are there
 abbrev pub invariant-loop-field : goal.invariant-loop-field

@@ -2,16 +2,21 @@
 use Rattle.std.specs.Prelude.{ℕ, suc, ◌-◌, Bool, true, false, List, [], ◌∷◌, ◌++◌, length, count_by, codes}
 use Rattle.std.specs.Fmt.{decimal}
 use Rattle.vrt_fields.specs.Text.{hexadecimal}
-use Rattle.difi_cmd.specs.declared.lines.StreamKind.{StreamKind}
-use Rattle.difi_cmd.specs.declared.lines.StreamKind.TheVariants.{Data, Context, Version}
-use Rattle.difi_cmd.specs.declared.lines.Judgement.{Judgement}
-use Rattle.difi_cmd.specs.declared.lines.Judgement.TheVariants.{Accepted, Refused, TooLarge}
+use Rattle.difi_texts.specs.declared.lines.PacketKind.{PacketKind}
+use Rattle.difi_texts.specs.declared.lines.PacketKind.TheVariants.{Data, Context, Version, Control, Cancel, AckV, AckX, AckS}
+use Rattle.difi_texts.specs.declared.lines.Judgement.{Judgement}
+use Rattle.difi_texts.specs.declared.lines.Judgement.TheVariants.{Accepted, Refused, TooLarge}
 
 -- what a line says of an accepted packet in front of its stream
-abbrev pub acceptance : StreamKind → List ℕ
+abbrev pub acceptance : PacketKind → List ℕ
 acceptance Data = codes " ok data stream "
 acceptance Context = codes " ok context stream "
 acceptance Version = codes " ok version stream "
+acceptance Control = codes " ok control stream "
+acceptance Cancel = codes " ok cancel stream "
+acceptance AckV = codes " ok ackv stream "
+acceptance AckX = codes " ok ackx stream "
+acceptance AckS = codes " ok acks stream "
 
 -- what a line says of a datagram
 abbrev pub outcome : Judgement → List ℕ

@@ -1,0 +1,5 @@
+pub mod Lines
+pub mod Prologue
+pub mod CommandDetails
+pub mod Details
+pub mod Accounts

@@ -1,0 +1,14 @@
+//! The lines of `check` and `show`: what is told of each frame of a record, and the last line.
+#![tactic(auto)]
+
+mod command_details;
+mod details;
+mod fields;
+mod lines;
+#[cfg(test)]
+mod tests;
+mod text_buffer;
+
+pub use crate::details::push_under;
+pub use crate::lines::{Judgement, Listing, PacketKind, accepted, push_counts, push_line};
+pub use crate::text_buffer::TextBuffer;

@@ -1,0 +1,145 @@
+ghost use Rattle.std.specs.Prelude.{◌≡◌, ◌≤◌, ◌+◌, ◌++◌, length};
+ghost use Rattle.difi_packet.specs.Packet.{value_of};
+ghost use Rattle.difi_texts.specs.Accounts.{accepted, accepted_ack};
+ghost use Rattle.difi_texts.specs.Lines.{acceptance, line, outcome, counts};
+
+use crate::text_buffer::TextBuffer;
+use ack_codec::Ack;
+use difi_packet::Packet;
+
+/// What is told of the frames of a record.
+#[derive(Clone, Copy, Debug, PartialEq, Eq)]
+pub enum Listing {
+    /// A line for each frame.
+    Check,
+    /// And under it, what an accepted packet holds.
+    Show,
+}
+
+/// The kinds of packet.
+#[derive(Clone, Copy, Debug, PartialEq, Eq)]
+pub enum PacketKind {
+    /// Samples of a signal.
+    Data,
+    /// What a converter says of the signal.
+    Context,
+    /// Which versions a converter speaks.
+    Version,
+    /// A command.
+    Control,
+    /// A cancellation of a command.
+    Cancel,
+    /// An acknowledgement of a command's validation.
+    AckV,
+    /// An acknowledgement of a command's execution.
+    AckX,
+    /// An answer to a query of the state.
+    AckS,
+}
+
+/// What is judged of a datagram.
+#[derive(Clone, Copy, Debug, PartialEq, Eq)]
+pub enum Judgement {
+    /// It is a packet of this kind and stream.
+    Accepted { kind: PacketKind, stream: u32 },
+    /// It is no packet. The word is where no packet goes on so.
+    Refused { word: u32 },
+    /// It has more words than the record allows.
+    TooLarge,
+}
+
+/// What is judged of a packet.
+pub fn accepted(packet: &Packet<'_>) -> Judgement
+    ensures { result ≡ accepted (value_of packet.now) }
+{
+    match packet {
+        Packet::Data(rec) => Judgement::Accepted {
+            kind: PacketKind::Data,
+            stream: rec.prologue.stream,
+        },
+        Packet::Context(rec) => Judgement::Accepted {
+            kind: PacketKind::Context,
+            stream: rec.prologue.stream,
+        },
+        Packet::Version(rec) => Judgement::Accepted {
+            kind: PacketKind::Version,
+            stream: rec.prologue.stream,
+        },
+    }
+}
+
+/// What is judged of an acknowledgement.
+pub(crate) fn accepted_ack(packet: &Ack) -> Judgement
+    ensures { result ≡ accepted_ack packet.now }
+{
+    let (kind, stream) = match packet {
+        Ack::V(report) => (PacketKind::AckV, report.prologue.stream),
+        Ack::X(report) => (PacketKind::AckX, report.prologue.stream),
+        Ack::S(state) => (PacketKind::AckS, state.prologue.stream),
+    };
+    Judgement::Accepted { kind, stream }
+}
+
+/// Puts the line of the frame with this number behind the text.
+pub fn push_line(out: &mut TextBuffer, number: u64, judgement: Judgement)
+    requires { length out.old + 64 ≤ 67584 }
+    ensures text { out.new ≡ out.old ++ line number judgement }
+    ensures length { length out.new ≤ length out.old + 64 }
+{
+    out.push(b"frame ");
+    out.push_decimal(number);
+    push_outcome(out, judgement);
+    out.push(b"\n");
+}
+
+// What a line says of a datagram.
+fn push_outcome(out: &mut TextBuffer, judgement: Judgement)
+    requires { length out.old + 37 ≤ 67584 }
+    ensures text { out.new ≡ out.old ++ outcome judgement }
+    ensures length { length out.new ≤ length out.old + 37 }
+{
+    match judgement {
+        Judgement::Accepted { kind, stream } => {
+            out.push(acceptance_of(kind));
+            out.push_hexadecimal(stream);
+        }
+        Judgement::Refused { word } => {
+            out.push(b" refused at word ");
+            out.push_decimal(u64::from(word));
+        }
+        Judgement::TooLarge => out.push(b" too large"),
+    }
+}
+
+// What a line says of an accepted packet in front of its stream.
+fn acceptance_of(kind: PacketKind) -> &'static [u8]
+    ensures text { result.now ≡ acceptance kind }
+    ensures length { length result.now ≤ 19 }
+{
+    match kind {
+        PacketKind::Data => b" ok data stream ",
+        PacketKind::Context => b" ok context stream ",
+        PacketKind::Version => b" ok version stream ",
+        PacketKind::Control => b" ok control stream ",
+        PacketKind::Cancel => b" ok cancel stream ",
+        PacketKind::AckV => b" ok ackv stream ",
+        PacketKind::AckX => b" ok ackx stream ",
+        PacketKind::AckS => b" ok acks stream ",
+    }
+}
+
+/// Puts the last line behind the text.
+pub fn push_counts(out: &mut TextBuffer, frames: u64, accepted: u64)
+    requires room { length out.old + 96 ≤ 67584 }
+    requires accepted { accepted ≤ frames }
+    ensures text { out.new ≡ out.old ++ counts frames accepted }
+    ensures length { length out.new ≤ length out.old + 96 }
+{
+    out.push(b"frames ");
+    out.push_decimal(frames);
+    out.push(b" ok ");
+    out.push_decimal(accepted);
+    out.push(b" refused ");
+    out.push_decimal(frames - accepted);
+    out.push(b"\n");
+}

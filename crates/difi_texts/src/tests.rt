@@ -1,0 +1,251 @@
+use super::command_details::{push_ack, push_cancel, push_control};
+use super::lines::accepted_ack;
+use super::*;
+use ack_codec::{Ack, AckReport, AckState, Responses};
+use cam_field::{Action, Cam, Ident, Timing};
+use command_codec::{Cancel, Control};
+use vrt_fields::{Field, FieldSet};
+use vrt_header::{Header, Kind, Prologue};
+use vrt_time::Stamp;
+use vrt_words::NoMemory;
+
+/// A mode word that asks for nothing.
+const SILENT: Cam = Cam {
+    ce: false,
+    ie: false,
+    cr: false,
+    ir: false,
+    partial: false,
+    warnings: false,
+    errors: false,
+    action: Action::None,
+    nk: false,
+    v: false,
+    x: false,
+    s: false,
+    warned: false,
+    erred: false,
+    timing: Timing::Now,
+    in_part: false,
+    executed: false,
+};
+
+/// A prologue of stream 1 without a stamp.
+fn prologue_of(kind: Kind) -> Prologue {
+    Prologue {
+        header: Header {
+            kind,
+            bit25: false,
+            bit24: kind == Kind::Cancel,
+            timed: false,
+            count: 0,
+            size: 7,
+        },
+        stream: 1,
+        pad: 0,
+        information: 0,
+        packet: 0,
+        stamp: None,
+    }
+}
+
+/// A sample rate of 1 Hz.
+fn rate() -> FieldSet {
+    let mut set = FieldSet::empty();
+    set.set(Field::SampleRate, 1 << 20);
+    set
+}
+
+/// A report of nothing.
+fn report_of(cam: Cam) -> AckReport {
+    AckReport {
+        prologue: prologue_of(Kind::Ack),
+        cam,
+        message: 7,
+        controllee: Ident::None,
+        controller: Ident::None,
+        warnings: None,
+        errors: None,
+    }
+}
+
+/// An answer with the sample rate.
+fn state_of(cam: Cam) -> AckState {
+    AckState {
+        prologue: prologue_of(Kind::Ack),
+        cam,
+        message: 3,
+        controllee: Ident::None,
+        controller: Ident::None,
+        fields: rate(),
+    }
+}
+
+#[test]
+fn a_command_is_shown_with_its_fields(rt: HostRuntime) -> Result<(), NoMemory> {
+    let mut out = TextBuffer::open(rt.alloc())?;
+    let mut set = rate();
+    set.set(Field::Gain, 0x600);
+    let packet = Control {
+        prologue: prologue_of(Kind::Control),
+        cam: Cam {
+            action: Action::Execute,
+            x: true,
+            ..SILENT
+        },
+        message: 1,
+        controllee: Ident::None,
+        controller: Ident::None,
+        asked: 0x00A0_0000,
+        fields: Some(set),
+    };
+    push_control(rt.alloc(), &mut out, &packet);
+    let text =
+        b"  time none\n  count 0\n  cam 01080000\n  message 00000001\n  controllee none\n  controller none\n  fields 00A00000\n  gain 1536/128 dB 0/128 dB\n  sample rate 1 Hz + 0/1048576\n";
+    assert_eq!(rt; out.as_slice(), text.as_slice());
+    Ok(())
+}
+
+#[test]
+fn a_query_is_shown_with_its_stamp(rt: HostRuntime) -> Result<(), NoMemory> {
+    let mut out = TextBuffer::open(rt.alloc())?;
+    let mut prologue = prologue_of(Kind::Control);
+    prologue.header.timed = true;
+    prologue.header.count = 15;
+    prologue.stamp = Stamp::of_picos(1_700_000_000, 5);
+    let packet = Control {
+        prologue,
+        cam: Cam { s: true, ..SILENT },
+        message: 0xFEDC_BA98,
+        controllee: Ident::None,
+        controller: Ident::None,
+        asked: 0x0020_0000,
+        fields: None,
+    };
+    push_control(rt.alloc(), &mut out, &packet);
+    let text =
+        b"  time 1700000000 s 000000000005 ps\n  count 15\n  cam 00040000\n  message FEDCBA98\n  controllee none\n  controller none\n  fields 00200000\n  query\n";
+    assert_eq!(rt; out.as_slice(), text.as_slice());
+    Ok(())
+}
+
+#[test]
+fn a_command_of_no_field_is_no_query(rt: HostRuntime) -> Result<(), NoMemory> {
+    let mut out = TextBuffer::open(rt.alloc())?;
+    let packet = Control {
+        prologue: prologue_of(Kind::Control),
+        cam: SILENT,
+        message: 2,
+        controllee: Ident::None,
+        controller: Ident::None,
+        asked: 0,
+        fields: Some(FieldSet::empty()),
+    };
+    push_control(rt.alloc(), &mut out, &packet);
+    let text =
+        b"  time none\n  count 0\n  cam 00000000\n  message 00000002\n  controllee none\n  controller none\n  fields 00000000\n";
+    assert_eq!(rt; out.as_slice(), text.as_slice());
+    Ok(())
+}
+
+#[test]
+fn a_cancellation_is_shown_with_both_identities(rt: HostRuntime) -> Result<(), NoMemory> {
+    let mut out = TextBuffer::open(rt.alloc())?;
+    let packet = Cancel {
+        prologue: prologue_of(Kind::Cancel),
+        cam: Cam {
+            ce: true,
+            cr: true,
+            ir: true,
+            action: Action::Execute,
+            x: true,
+            ..SILENT
+        },
+        message: 5,
+        controllee: Ident::Word(0xA1),
+        controller: Ident::Uuid([1, 2, 0x8000_0000, 0xABCD]),
+        named: 0x0080_0000,
+    };
+    push_cancel(&mut out, &packet);
+    let text =
+        b"  time none\n  count 0\n  cam B1080000\n  message 00000005\n  controllee 000000A1\n  controller 00000001 00000002 80000000 0000ABCD\n  fields 00800000\n";
+    assert_eq!(rt; out.as_slice(), text.as_slice());
+    Ok(())
+}
+
+#[test]
+fn a_validation_is_shown_with_warnings_and_errors(rt: HostRuntime) -> Result<(), NoMemory> {
+    let mut out = TextBuffer::open(rt.alloc())?;
+    let mut report = report_of(Cam {
+        action: Action::Execute,
+        v: true,
+        warned: true,
+        erred: true,
+        ..SILENT
+    });
+    report.warnings = Some(Responses {
+        cif0: 0x00A0_0000,
+        words: [0, 0, 0, 0, 0, 0, 0x12, 0x8000_0000, 0, 0, 0, 0],
+    });
+    report.errors = Some(Responses {
+        cif0: 0x4000_8000,
+        words: [1, 0, 0, 0, 0, 0, 0, 0, 0, 0, 0, 0xFFFF_FFFF],
+    });
+    push_ack(rt.alloc(), &mut out, &Ack::V(report));
+    let text =
+        b"  time none\n  count 0\n  cam 01130000\n  message 00000007\n  controllee none\n  controller none\n  warnings 00A00000\n  00800000 00000012\n  00200000 80000000\n  errors 40008000\n  40000000 00000001\n  00008000 FFFFFFFF\n";
+    assert_eq!(rt; out.as_slice(), text.as_slice());
+    Ok(())
+}
+
+#[test]
+fn an_execution_without_warnings_and_errors_is_shown(rt: HostRuntime) -> Result<(), NoMemory> {
+    let mut out = TextBuffer::open(rt.alloc())?;
+    let report = report_of(Cam {
+        action: Action::Execute,
+        x: true,
+        executed: true,
+        ..SILENT
+    });
+    push_ack(rt.alloc(), &mut out, &Ack::X(report));
+    let text =
+        b"  time none\n  count 0\n  cam 01080400\n  message 00000007\n  controllee none\n  controller none\n";
+    assert_eq!(rt; out.as_slice(), text.as_slice());
+    Ok(())
+}
+
+#[test]
+fn an_answer_to_a_query_is_shown_with_its_fields(rt: HostRuntime) -> Result<(), NoMemory> {
+    let mut out = TextBuffer::open(rt.alloc())?;
+    let state = state_of(Cam { s: true, ..SILENT });
+    push_ack(rt.alloc(), &mut out, &Ack::S(state));
+    let text =
+        b"  time none\n  count 0\n  cam 00040000\n  message 00000003\n  controllee none\n  controller none\n  fields 00200000\n  sample rate 1 Hz + 0/1048576\n";
+    assert_eq!(rt; out.as_slice(), text.as_slice());
+    Ok(())
+}
+
+#[test]
+fn each_acknowledgement_has_its_line(rt: HostRuntime) -> Result<(), NoMemory> {
+    let mut out = TextBuffer::open(rt.alloc())?;
+    push_line(&mut out, 1, accepted_ack(&Ack::V(report_of(SILENT))));
+    push_line(&mut out, 2, accepted_ack(&Ack::X(report_of(SILENT))));
+    push_line(&mut out, 3, accepted_ack(&Ack::S(state_of(SILENT))));
+    let text =
+        b"frame 1 ok ackv stream 00000001\nframe 2 ok ackx stream 00000001\nframe 3 ok acks stream 00000001\n";
+    assert_eq!(rt; out.as_slice(), text.as_slice());
+    Ok(())
+}
+
+#[test]
+fn a_command_and_its_cancellation_have_their_lines(rt: HostRuntime) -> Result<(), NoMemory> {
+    let mut out = TextBuffer::open(rt.alloc())?;
+    let stream = 0xABCD_EF01;
+    let kind = PacketKind::Control;
+    push_line(&mut out, 4, Judgement::Accepted { kind, stream });
+    let kind = PacketKind::Cancel;
+    push_line(&mut out, 5, Judgement::Accepted { kind, stream });
+    let text = b"frame 4 ok control stream ABCDEF01\nframe 5 ok cancel stream ABCDEF01\n";
+    assert_eq!(rt; out.as_slice(), text.as_slice());
+    Ok(())
+}
