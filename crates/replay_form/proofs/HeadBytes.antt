@@ -1,21 +1,20 @@
 -- The bytes of a header by its values.
-use Rattle.std.proofs.Common.{◌≡◌, ℕ, zero, suc, ◌+◌, ◌*◌, ◌-◌, ◌<◌, ◌≤◌, ◌^◌, ◌==◌, Bool, true, false, if◌then◌else◌, List, [], ◌∷◌, ◌++◌, length, take, drop, slice_index, get_or, refl, sym, ap, ◌∙◌, subst, append-nil, length-append, lit<, arith}
+use Rattle.std.proofs.Common.{◌≡◌, ℕ, zero, suc, ◌+◌, ◌*◌, ◌-◌, ◌<◌, ◌≤◌, ◌^◌, ◌==◌, Bool, true, false, if◌then◌else◌, List, [], ◌∷◌, ◌++◌, length, drop, slice_index, get_or, refl, sym, ap, ◌∙◌, subst, append-nil, length-append, lit<, arith}
 use Rattle.std.proofs.Math.Nat.{mul-suc}
 use Rattle.std.proofs.lemmas.List.{drop_at, drop-drop, get_or_append_left, get_or-append_right}
 use Rattle.std.specs.Int.{w64, cast_unsigned}
 use Rattle.std.specs.Int.RustNames.{FitsSigned}
-use Rattle.std.proofs.lemmas.Int.{ints}
 use Rattle.std.specs.Prelude.{ℤ, pos, negsuc}
 use Rattle.byteorder.specs.Endian.{big_bytes, big_from}
 use Rattle.byteorder.specs.Numbers.{length-bytes_high_first}
 use Rattle.vrt_words.specs.Words.{AreBytes, AreWords}
-use Rattle.vrt_words.specs.WordLaws.{AreWords-append, AreWords-cons, AreWords-nil}
+use Rattle.vrt_words.specs.WordLaws.{AreWords-append}
 use Rattle.vrt_fields.specs.declared.limit.Limit.{Limit}
 use Rattle.vrt_fields.specs.declared.route.Route.{Route}
 use Rattle.cam_field.specs.declared.ident.Ident.{Ident}
 use Rattle.cam_field.specs.declared.ident.Ident.TheVariants as idents
 use Rattle.replay_form.specs.HeadFields.{IsStep, route_size, route_at, most_routes, first_magic, second_magic}
-use Rattle.replay_form.specs.HeadSpelling.{IsHeadStart, IsLimitSpelled, AreLimitsSpelled, IsFirstRoute, IsSecondRoute, IsRouteSpelled, AreRoutesSpelled, identity_form, identity_words, magic_of, size_of_head}
+use Rattle.replay_form.specs.HeadSpelling.{IsHeadStart, IsLimitSpelled, AreLimitsSpelled, IsRouteSpelled, AreRoutesSpelled, identity_form, identity_words, magic_of, size_of_head}
 use Rattle.replay_form.specs.HeadValues.{AreHeadValues, IsBound, IsRoute}
 use Rattle.replay_form.specs.declared.record_head.RecordHead.{RecordHead}
 use Rattle.replay_form.specs.Numbers.{number_at, AreNumbers}
@@ -298,10 +297,10 @@ limits_there head values bound other h =
     let count = values.bounds_all in
     limit_there (get_or head.bounds bound other) bound (head_bytes head) (head_bytes_fit head) (omega (arith, length-head_bytes head values)) (values.bounds bound other h)
     (λ offset width inside. (
-        let there : 28 * bound + offset + width ≤ length limits = omega arith in
-        behind_words head (28 * bound + offset) width values ∙ number_at-append (28 * bound + offset) width limits routes there
-        ∙ number_in_block limit_bytes 28 head.bounds bound offset width other length-limit (omega arith) inside
-        ))
+    let there : 28 * bound + offset + width ≤ length limits = omega arith in
+    behind_words head (28 * bound + offset) width values ∙ number_at-append (28 * bound + offset) width limits routes there
+    ∙ number_in_block limit_bytes 28 head.bounds bound offset width other length-limit (omega arith) inside
+    ))
 
 -- the routes
 route_end : (second : Bool) (k n : ℕ) → k < n → route_at second k + route_size second ≤ 332 + route_size second * n
@@ -360,11 +359,11 @@ routes_there head values k other h =
     route_there second (get_or head.routes k other) k (head_bytes head) (head_bytes_fit head) (omega (arith, length-head_bytes head values, route_end second k (length head.routes) h))
     (values.routes.each k other h)
     (λ offset width inside. (
-        let e : route_at second k + offset ≡ 136 + (196 + (route_size second * k + offset)) = omega arith in
-        ap (λ o. number_at o width (head_bytes head)) e ∙ behind_words head (196 + (route_size second * k + offset)) width values
-        ∙ number_behind limits routes 196 (route_size second * k + offset) width size
-        ∙ number_in_block (route_bytes second) (route_size second) head.routes k offset width other (length-route second) h inside
-        ))
+    let e : route_at second k + offset ≡ 136 + (196 + (route_size second * k + offset)) = omega arith in
+    ap (λ o. number_at o width (head_bytes head)) e ∙ behind_words head (196 + (route_size second * k + offset)) width values
+    ∙ number_behind limits routes 196 (route_size second * k + offset) width size
+    ∙ number_in_block (route_bytes second) (route_size second) head.routes k offset width other (length-route second) h inside
+    ))
 
 -- bytes with the numbers of a header, and no others
 pub record AreHeadNumbers (head : RecordHead) (bytes : List ℕ) : Type 0 where

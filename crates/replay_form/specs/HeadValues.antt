@@ -1,5 +1,5 @@
 -- The rules of a header's values, whatever bytes say them.
-use Rattle.std.specs.Prelude.{◌≡◌, ◌≢◌, ℕ, ◌+◌, ◌-◌, ◌<◌, ◌≤◌, ◌^◌, ◌==◌, Bool, true, false, if◌then◌else◌, ◌⊎◌, List, length, slice_index, get_or}
+use Rattle.std.specs.Prelude.{◌≡◌, ◌≢◌, ℕ, ◌+◌, ◌-◌, ◌<◌, ◌≤◌, ◌^◌, ◌==◌, Bool, if◌then◌else◌, ◌⊎◌, List, length, slice_index, get_or}
 use Rattle.std.specs.Int.{w64}
 use Rattle.std.specs.Int.RustNames.{FitsSigned}
 use Rattle.vrt_words.specs.Words.{AreWords}
@@ -7,7 +7,6 @@ use Rattle.vrt_header.specs.Profile.{IsProfile}
 use Rattle.vrt_fields.specs.declared.limit.Limit.{Limit}
 use Rattle.vrt_fields.specs.declared.route.Route.{Route}
 use Rattle.cam_field.specs.declared.ident.Ident.{Ident}
-use Rattle.cam_field.specs.declared.ident.Ident.TheVariants as idents
 use Rattle.sample_binder.specs.Binder.{AreLimits}
 use Rattle.replay_form.specs.HeadFields.{IsRouteCount, IsInitialWord, IsStep, IsLeast, IsGreatest, most_pending}
 use Rattle.replay_form.specs.HeadSpelling.{identity_words}
