@@ -1,14 +1,13 @@
 -- Bytes that are given to the reader, and what is told of their frames.
-use Rattle.std.proofs.Common.{◌≡◌, ℕ, zero, suc, ◌+◌, ◌<◌, ◌≤◌, ◌⊎◌, inl, inr, Bool, true, false, List, [], ◌∷◌, ◌++◌, length, take, drop, ◌==◌, Option, Some, None, refl, sym, ap, ◌∙◌, subst, append_assoc, append-nil, length-append, take-append-drop, arith}
+use Rattle.std.proofs.Common.{◌≡◌, ℕ, ◌+◌, ◌<◌, ◌≤◌, ◌⊎◌, inl, inr, Bool, true, false, List, [], ◌∷◌, ◌++◌, length, take, drop, ◌==◌, Option, Some, None, refl, sym, ap, ◌∙◌, subst, append_assoc, length-append, take-append-drop, arith}
 use Rattle.std.specs.Prelude.{Result, Ok, Err, OnOk}
 use Rattle.std.proofs.lemmas.List.{length-take-le}
-use Rattle.vrt_time.specs.Time.{TimeStamp}
-use Rattle.replay_form.specs.Head.{IsHead}
-use Rattle.replay_form.specs.HeadFields.{IsHeadPart, IsHeadWrongAt, IsWholeHead}
-use Rattle.replay_form.specs.FrameFields.{Frame, IsFramePart, IsFrameWrongAt, IsWholeFrame, frame_in}
-use Rattle.replay_form.specs.Record.{first_stamp, last_stamp, IsOpen, IsCut, IsRecordWrongAt}
+use Rattle.replay_form.specs.HeadFields.{IsHeadPart, IsHeadWrongAt}
+use Rattle.replay_form.specs.FrameFields.{Frame, IsFrameWrongAt}
+use Rattle.replay_form.specs.Record.{IsRecordWrongAt}
 use Rattle.replay_form.specs.RecordLaws.{cut-append}
-use Rattle.replay_form.specs.Reading.{Reading, begun, IsBeginning, IsGoing, StandsWith, StandsFor, IsMore, IsHeadRead, IsFrameRead, IsStep, IsNewFault, IsFailed, frames_after}
+use Rattle.replay_form.specs.Reading.{Reading, begun, IsBeginning, IsGoing, StandsWith, StandsFor, IsStep, IsNewFault, IsFailed, frames_after}
+use Rattle.replay_form.specs.ReadingLaws.{step_sound}
 use Rattle.replay_form.specs.declared.event.RecordFault.{RecordFault}
 use Rattle.replay_form.specs.declared.event.Event.{Event}
 use Rattle.replay_form.specs.declared.event.Event.TheVariants as events
@@ -16,8 +15,8 @@ use Rattle.replay_form.specs.declared.record_head.RecordHead.{RecordHead}
 use Rattle.difi_cmd.specs.declared.lines.Listing.{Listing}
 use Rattle.difi_cmd.specs.declared.report.Report.{Report}
 use Rattle.difi_cmd.specs.Lines.{Account, entries}
-use Rattle.difi_cmd.specs.Text.{AreAccounts, IsPart, HasFrames}
-use Rattle.difi_cmd.specs.Outcome.{HasNoFault, HasFaultAt}
+use Rattle.difi_cmd.specs.Text.{AreAccounts, IsPart}
+use Rattle.difi_cmd.specs.Outcome.{HasNoFault}
 use Rattle.difi_cmd.specs.Progress.{IsSent, IsReporting}
 use Rattle.difi_cmd.specs.Steps.{IsWrongText, IsStanding, IsAlong, IsFed}
 
@@ -113,21 +112,11 @@ accounts_kept listing old piece count events.Head new taken frames told step sta
       | inr g ↦ not_both old.started g.started step.first
     ]
 
-pub sound_kept : (old : Reading) (piece : List ℕ) (count : ℕ) (event : Event) (new : Reading) → IsStep old piece count event new → new.fault ≡ None
-sound_kept old piece count events.More new step = ap (λ (r : Reading). r.fault) step.after ∙ step.sound
-sound_kept old piece count events.Frame new step = ap (λ (r : Reading). r.fault) step.after ∙ step.sound
-sound_kept old piece count events.Head new step = ap (λ (r : Reading). r.fault) step.after
-
 pub frame_there : (old : Reading) (piece : List ℕ) (count : ℕ) (event : Event) (new : Reading) → IsStep old piece count event new → event ≡ events.Frame
     → (new.started ≡ true) × (new.whole ≡ true)
 frame_there old piece count events.Frame new step e = (ap (λ (r : Reading). r.started) step.after ∙ step.later, ap (λ (r : Reading). r.whole) step.after)
 frame_there old piece count events.More new step e = cc
 frame_there old piece count events.Head new step e = cc
-
-pub count_within : (old : Reading) (piece : List ℕ) (count : ℕ) (event : Event) (new : Reading) → IsStep old piece count event new → count ≤ length piece
-count_within old piece count events.Frame new step = step.few
-count_within old piece count events.More new step = omega (arith, step.all)
-count_within old piece count events.Head new step = step.few
 
 -- how many bytes came so far
 abbrev pub place_of : Reading → ℕ
@@ -144,31 +133,6 @@ place_moved old piece count events.Head new taken frames step stands =
       | inl b ↦ ap place_of step.after
           ∙ omega (arith, length-append (begun old) (take count piece), length-take-le count piece step.few, b.start, ap length b.bytes)
       | inr g ↦ not_both old.started g.started step.first
-    ]
-
--- what is only a part is not whole
-part_not_whole : (last : TimeStamp) (bytes : List ℕ) → IsFramePart last bytes → ¬ IsWholeFrame last (bytes ++ [])
-part_not_whole last bytes part whole =
-    let w = subst (IsWholeFrame last) (append-nil bytes) whole in omega (arith, (w.right part.index part.among).there, part.missing)
-
-head_not_whole : (bytes : List ℕ) → IsHeadPart bytes → ¬ IsWholeHead (bytes ++ [])
-head_not_whole bytes part whole =
-    let w = subst IsWholeHead (append-nil bytes) whole in omega (arith, (w.right part.0 part.1.among).there, part.1.missing)
-
-pub some_taken : (old : Reading) (piece : List ℕ) (count : ℕ) (event : Event) (new : Reading) (taken : List ℕ) (frames : List Frame) → IsStep old piece count event new
-    → StandsFor old taken frames → 0 < length piece → 0 < count
-some_taken old piece count events.More new taken frames step stands some = omega (arith, step.all)
-some_taken old piece (suc count) events.Head new taken frames step stands some = omega arith
-some_taken old piece (suc count) events.Frame new taken frames step stands some = omega arith
-some_taken old piece zero events.Head new taken frames step stands some =
-    elim (standing old taken frames step.sound stands) [
-      | inl b ↦ absurd (head_not_whole (begun old) b.part step.says.whole)
-      | inr g ↦ not_both old.started g.started step.first
-    ]
-some_taken old piece zero events.Frame new taken frames step stands some =
-    elim (standing old taken frames step.sound stands) [
-      | inl b ↦ not_both old.started step.later b.started
-      | inr g ↦ absurd (part_not_whole old.last (begun old) (subst (λ last. IsFramePart last (begun old)) (sym g.last) g.so_far.part) step.whole)
     ]
 
 -- what is told stays told where the header stays
@@ -198,7 +162,7 @@ pub standing_step : (old : Reading) (piece : List ℕ) (count : ℕ) (event : Ev
     → ((taken : List ℕ) (frames : List Frame) → StandsFor old taken frames → StandsFor new (taken ++ take count piece) (frames_after event frames new))
     → IsStanding old → IsStanding new
 standing_step old piece count event new step stands s = record {
-  sound = sound_kept old piece count event new step;
+  sound = step_sound old piece count event new step;
   taken = s.taken ++ take count piece;
   frames = frames_after event s.frames new;
   stands = stands s.taken s.frames s.stands;
