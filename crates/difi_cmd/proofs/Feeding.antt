@@ -7,7 +7,7 @@ use Rattle.replay_form.specs.FrameFields.{Frame, IsFrameWrongAt}
 use Rattle.replay_form.specs.Record.{IsRecordWrongAt}
 use Rattle.replay_form.specs.RecordLaws.{cut-append}
 use Rattle.replay_form.specs.Reading.{Reading, begun, IsBeginning, IsGoing, StandsWith, StandsFor, IsStep, IsNewFault, IsFailed, frames_after}
-use Rattle.replay_form.specs.ReadingLaws.{step_sound}
+use Rattle.replay_form.specs.ReadingLaws.{sound_stands, step_sound, not_both}
 use Rattle.replay_form.specs.declared.event.RecordFault.{RecordFault}
 use Rattle.replay_form.specs.declared.event.Event.{Event}
 use Rattle.replay_form.specs.declared.event.Event.TheVariants as events
@@ -20,14 +20,9 @@ use Rattle.difi_cmd.specs.Outcome.{HasNoFault}
 use Rattle.difi_cmd.specs.Progress.{IsSent, IsReporting}
 use Rattle.difi_cmd.specs.Steps.{IsWrongText, IsStanding, IsAlong, IsFed}
 
--- a reader without a fault is in front of the header's end, or behind it
-pub standing : (reader : Reading) (taken : List ℕ) (frames : List Frame) → reader.fault ≡ None → StandsFor reader taken frames
-    → IsBeginning reader taken frames ⊎ IsGoing reader taken frames
-standing reader taken frames sound stands = subst (λ fault. StandsWith fault reader taken frames) sound stands
-
 pub no_fault : (reader : Reading) (taken : List ℕ) (frames : List Frame) → reader.fault ≡ None → StandsFor reader taken frames → HasNoFault taken
 no_fault reader taken frames sound stands =
-    elim (standing reader taken frames sound stands) [
+    elim (sound_stands reader taken frames sound stands) [
       | inl b ↦ inl (subst IsHeadPart (sym b.bytes) b.part)
       | inr g ↦ inr (reader.head, (frames, (begun reader, g.so_far)))
     ]
@@ -48,7 +43,7 @@ none_told listing reader taken frames told b judged = subst (λ fs. AreAccounts 
 pub part_so_far : (listing : Listing) (reader : Reading) (taken : List ℕ) (frames : List Frame) (told : List Account) → reader.fault ≡ None → StandsFor reader taken frames
     → AreAccounts listing reader.head frames told → IsPart listing taken (entries 1 told)
 part_so_far listing reader taken frames told sound stands judged =
-    elim (standing reader taken frames sound stands) [
+    elim (sound_stands reader taken frames sound stands) [
       | inl b ↦ inl (inl (subst IsHeadPart (sym b.bytes) b.part), ap (entries 1) (no_accounts listing reader.head told (none_told listing reader taken frames told b judged)))
       | inr g ↦ inr (reader.head, (frames, (record { rest = begun reader; cut = g.so_far.cut; behind = inl g.so_far.part }, (told, (judged, refl)))))
     ]
@@ -58,7 +53,7 @@ wrong_part : (listing : Listing) (old : Reading) (piece : List ℕ) (offset : �
     → IsNewFault old piece offset new → old.fault ≡ None → StandsFor old taken frames → AreAccounts listing old.head frames told
     → IsPart listing (taken ++ piece) (entries 1 told)
 wrong_part listing old piece offset new taken frames told fails sound stands judged =
-    elim (standing old taken frames sound stands) [
+    elim (sound_stands old taken frames sound stands) [
       | inl b ↦ (
           let wrong = subst (λ xs. IsHeadWrongAt xs offset) (ap (λ xs. xs ++ piece) (sym b.bytes)) (fails.in_head b.started) in
           inl (inr (offset, wrong), ap (entries 1) (no_accounts listing old.head told (none_told listing old taken frames told b judged)))
@@ -96,9 +91,6 @@ wrong_text listing old piece offset new taken frames told fails sound stands lat
 
 -- ---- one call of the reader
 
-not_both : {X : Type 0} (b : Bool) → b ≡ true → b ≡ false → X
-not_both b p q = absurd (cc)
-
 -- the header stays, or there was no frame yet
 pub accounts_kept : (listing : Listing) (old : Reading) (piece : List ℕ) (count : ℕ) (event : Event) (new : Reading) (taken : List ℕ) (frames : List Frame) (told : List Account)
     → IsStep old piece count event new → StandsFor old taken frames → AreAccounts listing old.head frames told → AreAccounts listing new.head frames told
@@ -107,16 +99,10 @@ accounts_kept listing old piece count events.More new taken frames told step sta
 accounts_kept listing old piece count events.Frame new taken frames told step stands judged =
     subst (λ (h : RecordHead). AreAccounts listing h frames told) (sym (ap (λ (r : Reading). r.head) step.after)) judged
 accounts_kept listing old piece count events.Head new taken frames told step stands judged =
-    elim (standing old taken frames step.sound stands) [
+    elim (sound_stands old taken frames step.sound stands) [
       | inl b ↦ subst (λ fs. AreAccounts listing new.head fs told) (sym b.none) (any_head listing old.head new.head told (none_told listing old taken frames told b judged))
       | inr g ↦ not_both old.started g.started step.first
     ]
-
-pub frame_there : (old : Reading) (piece : List ℕ) (count : ℕ) (event : Event) (new : Reading) → IsStep old piece count event new → event ≡ events.Frame
-    → (new.started ≡ true) × (new.whole ≡ true)
-frame_there old piece count events.Frame new step e = (ap (λ (r : Reading). r.started) step.after ∙ step.later, ap (λ (r : Reading). r.whole) step.after)
-frame_there old piece count events.More new step e = cc
-frame_there old piece count events.Head new step e = cc
 
 -- how many bytes came so far
 abbrev pub place_of : Reading → ℕ
@@ -129,7 +115,7 @@ place_moved old piece count events.More new taken frames step stands =
 place_moved old piece count events.Frame new taken frames step stands =
     ap place_of step.after ∙ omega (arith, length-append (begun old) (take count piece), length-take-le count piece step.few)
 place_moved old piece count events.Head new taken frames step stands =
-    elim (standing old taken frames step.sound stands) [
+    elim (sound_stands old taken frames step.sound stands) [
       | inl b ↦ ap place_of step.after
           ∙ omega (arith, length-append (begun old) (take count piece), length-take-le count piece step.few, b.start, ap length b.bytes)
       | inr g ↦ not_both old.started g.started step.first
