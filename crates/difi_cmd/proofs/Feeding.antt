@@ -1,12 +1,12 @@
 -- Bytes that are given to the reader, and what is told of their frames.
-use Rattle.std.proofs.Common.{◌≡◌, ℕ, ◌+◌, ◌<◌, ◌≤◌, ◌⊎◌, inl, inr, Bool, true, false, List, [], ◌∷◌, ◌++◌, length, take, drop, ◌==◌, Option, Some, None, refl, sym, ap, ◌∙◌, subst, append_assoc, length-append, take-append-drop, arith}
+use Rattle.std.proofs.Common.{◌≡◌, ℕ, ◌+◌, ◌<◌, ◌≤◌, inl, inr, false, List, [], ◌∷◌, ◌++◌, length, take, drop, ◌==◌, Option, Some, None, refl, sym, ap, ◌∙◌, subst, append_assoc, length-append, take-append-drop, arith}
 use Rattle.std.specs.Prelude.{Result, Ok, Err, OnOk}
 use Rattle.std.proofs.lemmas.List.{length-take-le}
 use Rattle.replay_form.specs.HeadFields.{IsHeadPart, IsHeadWrongAt}
 use Rattle.replay_form.specs.FrameFields.{Frame, IsFrameWrongAt}
 use Rattle.replay_form.specs.Record.{IsRecordWrongAt}
 use Rattle.replay_form.specs.RecordLaws.{cut-append}
-use Rattle.replay_form.specs.Reading.{Reading, begun, IsBeginning, IsGoing, StandsWith, StandsFor, IsStep, IsNewFault, IsFailed, frames_after}
+use Rattle.replay_form.specs.Reading.{Reading, begun, IsBeginning, StandsWith, StandsFor, IsStep, IsNewFault, IsFailed, frames_after}
 use Rattle.replay_form.specs.ReadingLaws.{sound_stands, step_sound, not_both}
 use Rattle.replay_form.specs.declared.event.RecordFault.{RecordFault}
 use Rattle.replay_form.specs.declared.event.Event.{Event}
