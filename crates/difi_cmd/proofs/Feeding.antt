@@ -1,14 +1,13 @@
 -- Bytes that are given to the reader, and what is told of their frames.
-use Rattle.std.proofs.Common.{◌≡◌, ℕ, zero, suc, ◌+◌, ◌<◌, ◌≤◌, ◌⊎◌, inl, inr, Bool, true, false, List, [], ◌∷◌, ◌++◌, length, take, drop, ◌==◌, Option, Some, None, refl, sym, ap, ◌∙◌, subst, append_assoc, append-nil, length-append, take-append-drop, arith}
+use Rattle.std.proofs.Common.{◌≡◌, ℕ, ◌+◌, ◌<◌, ◌≤◌, inl, inr, false, List, [], ◌∷◌, ◌++◌, length, take, drop, ◌==◌, Option, Some, None, refl, sym, ap, ◌∙◌, subst, append_assoc, length-append, take-append-drop, arith}
 use Rattle.std.specs.Prelude.{Result, Ok, Err, OnOk}
 use Rattle.std.proofs.lemmas.List.{length-take-le}
-use Rattle.vrt_time.specs.Time.{TimeStamp}
-use Rattle.replay_form.specs.Head.{IsHead}
-use Rattle.replay_form.specs.HeadFields.{IsHeadPart, IsHeadWrongAt, IsWholeHead}
-use Rattle.replay_form.specs.FrameFields.{Frame, IsFramePart, IsFrameWrongAt, IsWholeFrame, frame_in}
-use Rattle.replay_form.specs.Record.{first_stamp, last_stamp, IsOpen, IsCut, IsRecordWrongAt}
+use Rattle.replay_form.specs.HeadFields.{IsHeadPart, IsHeadWrongAt}
+use Rattle.replay_form.specs.FrameFields.{Frame, IsFrameWrongAt}
+use Rattle.replay_form.specs.Record.{IsRecordWrongAt}
 use Rattle.replay_form.specs.RecordLaws.{cut-append}
-use Rattle.replay_form.specs.Reading.{Reading, begun, IsBeginning, IsGoing, StandsWith, StandsFor, IsMore, IsHeadRead, IsFrameRead, IsStep, IsNewFault, IsFailed, frames_after}
+use Rattle.replay_form.specs.Reading.{Reading, begun, IsBeginning, StandsWith, StandsFor, IsStep, IsNewFault, IsFailed, frames_after}
+use Rattle.replay_form.specs.ReadingLaws.{sound_stands, step_sound, not_both}
 use Rattle.replay_form.specs.declared.event.RecordFault.{RecordFault}
 use Rattle.replay_form.specs.declared.event.Event.{Event}
 use Rattle.replay_form.specs.declared.event.Event.TheVariants as events
@@ -16,19 +15,14 @@ use Rattle.replay_form.specs.declared.record_head.RecordHead.{RecordHead}
 use Rattle.difi_texts.specs.declared.lines.Listing.{Listing}
 use Rattle.difi_cmd.specs.declared.report.Report.{Report}
 use Rattle.difi_texts.specs.Lines.{Account, entries}
-use Rattle.difi_cmd.specs.Text.{AreAccounts, IsPart, HasFrames}
-use Rattle.difi_cmd.specs.Outcome.{HasNoFault, HasFaultAt}
+use Rattle.difi_cmd.specs.Text.{AreAccounts, IsPart}
+use Rattle.difi_cmd.specs.Outcome.{HasNoFault}
 use Rattle.difi_cmd.specs.Progress.{IsSent, IsReporting}
 use Rattle.difi_cmd.specs.Steps.{IsWrongText, IsStanding, IsAlong, IsFed}
 
--- a reader without a fault is in front of the header's end, or behind it
-pub standing : (reader : Reading) (taken : List ℕ) (frames : List Frame) → reader.fault ≡ None → StandsFor reader taken frames
-    → IsBeginning reader taken frames ⊎ IsGoing reader taken frames
-standing reader taken frames sound stands = subst (λ fault. StandsWith fault reader taken frames) sound stands
-
 pub no_fault : (reader : Reading) (taken : List ℕ) (frames : List Frame) → reader.fault ≡ None → StandsFor reader taken frames → HasNoFault taken
 no_fault reader taken frames sound stands =
-    elim (standing reader taken frames sound stands) [
+    elim (sound_stands reader taken frames sound stands) [
       | inl b ↦ inl (subst IsHeadPart (sym b.bytes) b.part)
       | inr g ↦ inr (reader.head, (frames, (begun reader, g.so_far)))
     ]
@@ -49,7 +43,7 @@ none_told listing reader taken frames told b judged = subst (λ fs. AreAccounts 
 pub part_so_far : (listing : Listing) (reader : Reading) (taken : List ℕ) (frames : List Frame) (told : List Account) → reader.fault ≡ None → StandsFor reader taken frames
     → AreAccounts listing reader.head frames told → IsPart listing taken (entries 1 told)
 part_so_far listing reader taken frames told sound stands judged =
-    elim (standing reader taken frames sound stands) [
+    elim (sound_stands reader taken frames sound stands) [
       | inl b ↦ inl (inl (subst IsHeadPart (sym b.bytes) b.part), ap (entries 1) (no_accounts listing reader.head told (none_told listing reader taken frames told b judged)))
       | inr g ↦ inr (reader.head, (frames, (record { rest = begun reader; cut = g.so_far.cut; behind = inl g.so_far.part }, (told, (judged, refl)))))
     ]
@@ -59,7 +53,7 @@ wrong_part : (listing : Listing) (old : Reading) (piece : List ℕ) (offset : �
     → IsNewFault old piece offset new → old.fault ≡ None → StandsFor old taken frames → AreAccounts listing old.head frames told
     → IsPart listing (taken ++ piece) (entries 1 told)
 wrong_part listing old piece offset new taken frames told fails sound stands judged =
-    elim (standing old taken frames sound stands) [
+    elim (sound_stands old taken frames sound stands) [
       | inl b ↦ (
           let wrong = subst (λ xs. IsHeadWrongAt xs offset) (ap (λ xs. xs ++ piece) (sym b.bytes)) (fails.in_head b.started) in
           inl (inr (offset, wrong), ap (entries 1) (no_accounts listing old.head told (none_told listing old taken frames told b judged)))
@@ -97,9 +91,6 @@ wrong_text listing old piece offset new taken frames told fails sound stands lat
 
 -- ---- one call of the reader
 
-not_both : {X : Type 0} (b : Bool) → b ≡ true → b ≡ false → X
-not_both b p q = absurd (cc)
-
 -- the header stays, or there was no frame yet
 pub accounts_kept : (listing : Listing) (old : Reading) (piece : List ℕ) (count : ℕ) (event : Event) (new : Reading) (taken : List ℕ) (frames : List Frame) (told : List Account)
     → IsStep old piece count event new → StandsFor old taken frames → AreAccounts listing old.head frames told → AreAccounts listing new.head frames told
@@ -108,26 +99,10 @@ accounts_kept listing old piece count events.More new taken frames told step sta
 accounts_kept listing old piece count events.Frame new taken frames told step stands judged =
     subst (λ (h : RecordHead). AreAccounts listing h frames told) (sym (ap (λ (r : Reading). r.head) step.after)) judged
 accounts_kept listing old piece count events.Head new taken frames told step stands judged =
-    elim (standing old taken frames step.sound stands) [
+    elim (sound_stands old taken frames step.sound stands) [
       | inl b ↦ subst (λ fs. AreAccounts listing new.head fs told) (sym b.none) (any_head listing old.head new.head told (none_told listing old taken frames told b judged))
       | inr g ↦ not_both old.started g.started step.first
     ]
-
-pub sound_kept : (old : Reading) (piece : List ℕ) (count : ℕ) (event : Event) (new : Reading) → IsStep old piece count event new → new.fault ≡ None
-sound_kept old piece count events.More new step = ap (λ (r : Reading). r.fault) step.after ∙ step.sound
-sound_kept old piece count events.Frame new step = ap (λ (r : Reading). r.fault) step.after ∙ step.sound
-sound_kept old piece count events.Head new step = ap (λ (r : Reading). r.fault) step.after
-
-pub frame_there : (old : Reading) (piece : List ℕ) (count : ℕ) (event : Event) (new : Reading) → IsStep old piece count event new → event ≡ events.Frame
-    → (new.started ≡ true) × (new.whole ≡ true)
-frame_there old piece count events.Frame new step e = (ap (λ (r : Reading). r.started) step.after ∙ step.later, ap (λ (r : Reading). r.whole) step.after)
-frame_there old piece count events.More new step e = cc
-frame_there old piece count events.Head new step e = cc
-
-pub count_within : (old : Reading) (piece : List ℕ) (count : ℕ) (event : Event) (new : Reading) → IsStep old piece count event new → count ≤ length piece
-count_within old piece count events.Frame new step = step.few
-count_within old piece count events.More new step = omega (arith, step.all)
-count_within old piece count events.Head new step = step.few
 
 -- how many bytes came so far
 abbrev pub place_of : Reading → ℕ
@@ -140,35 +115,10 @@ place_moved old piece count events.More new taken frames step stands =
 place_moved old piece count events.Frame new taken frames step stands =
     ap place_of step.after ∙ omega (arith, length-append (begun old) (take count piece), length-take-le count piece step.few)
 place_moved old piece count events.Head new taken frames step stands =
-    elim (standing old taken frames step.sound stands) [
+    elim (sound_stands old taken frames step.sound stands) [
       | inl b ↦ ap place_of step.after
           ∙ omega (arith, length-append (begun old) (take count piece), length-take-le count piece step.few, b.start, ap length b.bytes)
       | inr g ↦ not_both old.started g.started step.first
-    ]
-
--- what is only a part is not whole
-part_not_whole : (last : TimeStamp) (bytes : List ℕ) → IsFramePart last bytes → ¬ IsWholeFrame last (bytes ++ [])
-part_not_whole last bytes part whole =
-    let w = subst (IsWholeFrame last) (append-nil bytes) whole in omega (arith, (w.right part.index part.among).there, part.missing)
-
-head_not_whole : (bytes : List ℕ) → IsHeadPart bytes → ¬ IsWholeHead (bytes ++ [])
-head_not_whole bytes part whole =
-    let w = subst IsWholeHead (append-nil bytes) whole in omega (arith, (w.right part.0 part.1.among).there, part.1.missing)
-
-pub some_taken : (old : Reading) (piece : List ℕ) (count : ℕ) (event : Event) (new : Reading) (taken : List ℕ) (frames : List Frame) → IsStep old piece count event new
-    → StandsFor old taken frames → 0 < length piece → 0 < count
-some_taken old piece count events.More new taken frames step stands some = omega (arith, step.all)
-some_taken old piece (suc count) events.Head new taken frames step stands some = omega arith
-some_taken old piece (suc count) events.Frame new taken frames step stands some = omega arith
-some_taken old piece zero events.Head new taken frames step stands some =
-    elim (standing old taken frames step.sound stands) [
-      | inl b ↦ absurd (head_not_whole (begun old) b.part step.says.whole)
-      | inr g ↦ not_both old.started g.started step.first
-    ]
-some_taken old piece zero events.Frame new taken frames step stands some =
-    elim (standing old taken frames step.sound stands) [
-      | inl b ↦ not_both old.started step.later b.started
-      | inr g ↦ absurd (part_not_whole old.last (begun old) (subst (λ last. IsFramePart last (begun old)) (sym g.last) g.so_far.part) step.whole)
     ]
 
 -- what is told stays told where the header stays
@@ -198,7 +148,7 @@ pub standing_step : (old : Reading) (piece : List ℕ) (count : ℕ) (event : Ev
     → ((taken : List ℕ) (frames : List Frame) → StandsFor old taken frames → StandsFor new (taken ++ take count piece) (frames_after event frames new))
     → IsStanding old → IsStanding new
 standing_step old piece count event new step stands s = record {
-  sound = sound_kept old piece count event new step;
+  sound = step_sound old piece count event new step;
   taken = s.taken ++ take count piece;
   frames = frames_after event s.frames new;
   stands = stands s.taken s.frames s.stands;

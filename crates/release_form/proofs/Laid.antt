@@ -14,7 +14,7 @@ use Rattle.release_form.specs.Layout.{IsLaidOut, IsLateStampAt, IsOfStream, IsPo
 use Rattle.release_form.specs.Sizes.{AreWholeWords, GoesWith, HasLength, part_size}
 use Rattle.release_form.specs.Release.{IsRecordOf, IsPartOf, as_read, read_run}
 use Rattle.release_form.specs.Front.{high_word, low_word, late_words, count_words, front_words, IsTyped, IsTypedRun, IsStampTyped}
-use Rattle.release_form.proofs.Written.{same_behind}
+use Rattle.difi_context.proofs.EncodingLemmas.{same_behind}
 use Rattle.release_form.specs.declared.shown.Shown.{Shown}
 use Rattle.release_form.specs.declared.shown.Shown.TheVariants.{Run as ARun, Ack, Refused, Version, End}
 

@@ -1,19 +1,12 @@
 -- What writes leave, piece by piece.
-use Rattle.std.proofs.Common.{◌≡◌, ℕ, ◌+◌, ◌-◌, ◌*◌, ◌≤◌, ◌<◌, List, [], ◌∷◌, ◌++◌, get_or, ap₂, length, take, drop, sym, ap, subst, ◌∙◌, append_assoc, length-append, arith}
-use Rattle.std.proofs.lemmas.List.{length-take-le, take_at, drop-drop}
+use Rattle.std.proofs.Common.{◌≡◌, ℕ, ◌+◌, ◌*◌, ◌≤◌, ◌<◌, List, [], ◌∷◌, ◌++◌, get_or, ap₂, length, take, sym, ap, ◌∙◌, append_assoc, length-append, arith}
+use Rattle.std.proofs.lemmas.List.{length-take-le, take_at}
 use Rattle.std.specs.List.{flat_map}
 use Rattle.std.proofs.lemmas.List.{take_more}
 use Rattle.std.proofs.lemmas.List.Concat.{flat_map-append}
 use Rattle.release_form.specs.Front.{high_word, low_word, count_words}
 use Rattle.vrt_words.specs.Words.{words_of}
 use Rattle.vrt_words.specs.WordLaws.{words_of-take, length-words_of}
-
--- what is the same from a place on is the same from a later place on
-pub same_behind : (m n : ℕ) (xs ys : List ℕ) → m ≤ n → drop m xs ≡ drop m ys → drop n xs ≡ drop n ys
-same_behind m n xs ys h e =
-    let k = n - m in
-    let more : m + k ≡ n = omega arith in
-    subst (λ i. drop i xs ≡ drop i ys) more (sym (drop-drop k m xs) ∙ ap (drop k) e ∙ drop-drop k m ys)
 
 -- words that are written behind some
 pub next_words : (position : ℕ) (words rest old new : List ℕ) → 4 * (position + length words) ≤ length old

@@ -2,4 +2,8 @@ pub mod Fields
 pub mod Taking
 pub mod TakingFrames
 pub mod Putting
+pub mod HeadBytes
+pub mod FieldRules
+pub mod HeadSaid
+pub mod HeadValues
 pub mod FrameSpelling

@@ -61,7 +61,7 @@ pub head_profile : (bytes : List ℕ) → HeadRanges bytes → IsProfile (profil
 head_profile bytes h = record { cid_fits = h.cid; tsi_from = h.tsi_from; tsi_to = h.tsi_to }
 
 -- behind the first 58 fields stand those of the routes
-field_behind : (second : Bool) (index : ℕ) → 58 ≤ index → field_at second index ≡ route_field second ((index - 58) / route_fields second) ((index - 58) % route_fields second)
+pub field_behind : (second : Bool) (index : ℕ) → 58 ≤ index → field_at second index ≡ route_field second ((index - 58) / route_fields second) ((index - 58) % route_fields second)
 field_behind second index h =
     let a : nat_lt index 11 ≡ false = grind (arith, common_steps) in
     let b : nat_lt index 30 ≡ false = grind (arith, common_steps) in
@@ -165,11 +165,11 @@ route_ends : (second : Bool) (route place : ℕ) → place < route_fields second
 route_ends true route place h = grind (arith, common_steps)
 route_ends false route place h = grind (arith, common_steps)
 
-quotient : (second : Bool) (k n : ℕ) → 58 ≤ k → k < 58 + route_fields second * n → (k - 58) / route_fields second < n
+pub quotient : (second : Bool) (k n : ℕ) → 58 ≤ k → k < 58 + route_fields second * n → (k - 58) / route_fields second < n
 quotient true k n g h = omega arith
 quotient false k n g h = omega arith
 
-rest : (second : Bool) (k : ℕ) → (k - 58) % route_fields second < route_fields second
+pub rest : (second : Bool) (k : ℕ) → (k - 58) % route_fields second < route_fields second
 rest true k = omega arith
 rest false k = omega arith
 

@@ -109,7 +109,7 @@ identity_spelled (idents.Word word) bytes whole is =
 identity_spelled (idents.Uuid words) bytes whole is = is.1
 
 -- the bounds
-number_below : (offset width : ℕ) (bytes : List ℕ) → AreBytes bytes → number_at offset width bytes < 256 ^ width
+pub number_below : (offset width : ℕ) (bytes : List ℕ) → AreBytes bytes → number_at offset width bytes < 256 ^ width
 unfolding number_at
 number_below offset width bytes fit = big_from-lt offset width bytes fit
 
@@ -141,7 +141,7 @@ flag_right bytes (suc (suc (suc (suc (suc zero))))) h whole = (let e = number_at
 flag_right bytes (suc (suc (suc (suc (suc (suc zero)))))) h whole = (let e = number_at-take 304 4 308 bytes (omega arith) in let r = (whole.right 54 (omega arith)).right in omega arith)
 flag_right bytes (suc (suc (suc (suc (suc (suc (suc k))))))) h whole = absurd (omega arith)
 
-bound_there : (bytes : List ℕ) (k : ℕ) (other : Limit) → k < 7 → get_or (bounds_in bytes) k other ≡ limit_in k bytes
+pub bound_there : (bytes : List ℕ) (k : ℕ) (other : Limit) → k < 7 → get_or (bounds_in bytes) k other ≡ limit_in k bytes
 bound_there bytes zero other h = refl
 bound_there bytes (suc zero) other h = refl
 bound_there bytes (suc (suc zero)) other h = refl
@@ -157,7 +157,7 @@ limits_spelled head bytes fit is k other h =
     (limit_one k bytes fit (omega (arith, is.whole.all)) (flag_right bytes k h is.whole))
 
 -- the routes
-route_here : (second : Bool) (n : ℕ) (bytes : List ℕ) (k : ℕ) (other : Route) → k < n → get_or (routes_in second n bytes) k other ≡ route_in second k bytes
+pub route_here : (second : Bool) (n : ℕ) (bytes : List ℕ) (k : ℕ) (other : Route) → k < n → get_or (routes_in second n bytes) k other ≡ route_in second k bytes
 route_here second zero bytes k other h = absurd (omega arith)
 route_here second (suc n) bytes k other h =
     let size = length-routes_in second n bytes in

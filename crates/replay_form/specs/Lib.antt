@@ -5,6 +5,7 @@ pub mod Head
 pub mod HeadLaws
 pub mod HeadSpelling
 pub mod HeadSpellingLaws
+pub mod HeadValues
 pub mod FrameFields
 pub mod FrameLaws
 pub mod FrameSpelling

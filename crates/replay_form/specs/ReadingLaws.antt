@@ -9,8 +9,8 @@ use Rattle.replay_form.specs.declared.event.Event.{Event}
 use Rattle.replay_form.specs.declared.event.Event.TheVariants as events
 use Rattle.replay_form.specs.declared.event.RecordFault.{RecordFault}
 
--- a reader without a fault
-sound_stands : (reading : Reading) (taken : List ℕ) (frames : List Frame) → reading.fault ≡ None → StandsFor reading taken frames → IsBeginning reading taken frames ⊎ IsGoing reading taken frames
+-- a reader without a fault is in front of the header's end, or behind it
+pub sound_stands : (reading : Reading) (taken : List ℕ) (frames : List Frame) → reading.fault ≡ None → StandsFor reading taken frames → IsBeginning reading taken frames ⊎ IsGoing reading taken frames
 sound_stands reading taken frames sound stands = subst (λ fault. StandsWith fault reading taken frames) sound stands
 
 stands_sound : (reading : Reading) (taken : List ℕ) (frames : List Frame) → reading.fault ≡ None → IsBeginning reading taken frames ⊎ IsGoing reading taken frames → StandsFor reading taken frames
@@ -46,7 +46,7 @@ more_stands old piece count new taken frames step stands =
     subst (λ r. StandsFor r (taken ++ take count piece) frames) (sym step.after)
     (subst (λ xs. StandsFor after xs frames) (more_taken taken piece count step.all) (stands_sound after (taken ++ piece) frames step.sound cases))
 
-not_both : {X : Type 0} (b : Bool) → b ≡ true → b ≡ false → X
+pub not_both : {X : Type 0} (b : Bool) → b ≡ true → b ≡ false → X
 not_both b p q = absurd (cc)
 
 -- the header is whole

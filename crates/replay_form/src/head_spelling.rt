@@ -1,8 +1,9 @@
 ghost use Rattle.std.specs.Prelude.{◌≡◌, ◌+◌, ◌*◌, ◌≤◌, ◌<◌, ◌^◌, ℕ, List, length, take, drop, false, true};
 ghost use Rattle.vrt_words.specs.Words.{AreBytes};
-ghost use Rattle.replay_form.specs.Head.{IsHead, IsSpelledHead};
+ghost use Rattle.replay_form.specs.Head.{IsHead};
 ghost use Rattle.replay_form.specs.HeadFields.{route_at, route_size};
 ghost use Rattle.replay_form.specs.HeadSpelling.{IsHeadStart, IsLimitSpelled, AreLimitsSpelled, IsFirstRoute, IsSecondRoute, AreRoutesSpelled, identity_form, identity_words, magic_of, size_of_head};
+ghost use Rattle.replay_form.specs.HeadValues.{AreHeadValues};
 ghost use Rattle.replay_form.specs.Numbers.{AreNumbers};
 
 use crate::head_field::{FIXED_SIZE, size_of_route, start_of_route};
@@ -179,10 +180,10 @@ fn put_routes(into: &mut [u8], second: bool, routes: &[Route])
 /// Writes a header at the front of `into`, in the form that it names, and answers the number of its
 /// bytes: 332, and 8 or 16 for each route. All other bytes stay.
 ///
-/// The header is one that bytes can spell. Reading it again gives the same, and writing what was read
+/// The values obey the rules of a header. Reading it again gives the same, and writing what was read
 /// gives the same bytes.
 pub fn encode_head(head: &RecordHead, into: &mut [u8]) -> usize
-    requires spelled { IsSpelledHead head.now }
+    requires valid { AreHeadValues head.now }
     requires room { size_of_head head.now ≤ length into.old }
     ensures length { result ≡ size_of_head head.now }
     ensures head { IsHead head.now (take result into.new) }

@@ -1,5 +1,7 @@
-ghost use Rattle.std.specs.Prelude.{◌≡◌, ℕ, List};
+ghost use Rattle.std.specs.Prelude.{◌≡◌, ◌↔◌, ℕ, List};
 ghost use Rattle.replay_form.specs.FrameFields.{Frame};
+ghost use Rattle.replay_form.specs.Head.{IsSpelledHead};
+ghost use Rattle.replay_form.specs.HeadValues.{AreHeadValues};
 ghost use Rattle.replay_form.specs.Record.{IsRecord, IsRecordWrongAt, EndsInside};
 ghost use Rattle.replay_form.specs.declared.record_head.RecordHead.{RecordHead};
 
@@ -13,4 +15,10 @@ pub fn one_verdict()
     ensures record_not_wrong { (h : RecordHead) (fs gs : List Frame) (bytes : List ℕ) (offset : ℕ) → IsRecord h fs bytes → ¬ IsRecordWrongAt gs bytes offset }
     ensures record_not_inside { (h : RecordHead) (fs : List Frame) (bytes : List ℕ) → IsRecord h fs bytes → ¬ EndsInside bytes }
     ensures wrong_not_inside { (gs : List Frame) (bytes : List ℕ) (offset : ℕ) → IsRecordWrongAt gs bytes offset → ¬ EndsInside bytes }
+{}
+
+/// The rules of a header's values are those of its bytes: a header obeys them exactly where some
+/// bytes spell it.
+pub fn rules_of_values()
+    ensures { (head : RecordHead) → IsSpelledHead head ↔ AreHeadValues head }
 {}

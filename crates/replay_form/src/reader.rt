@@ -1,5 +1,6 @@
 ghost use Rattle.std.specs.Prelude.{◌≡◌, ◌+◌, ◌*◌, ◌<◌, ◌≤◌, ◌^◌, ◌++◌, ◌↔◌, ◌⊎◌, ℕ, List, [], None, false, true, length, take, MatchOption, IfSome, IfOk, OnOk, IfErr, OnErr};
 ghost use Rattle.replay_form.specs.Head.{IsSpelledHead};
+ghost use Rattle.replay_form.specs.HeadValues.{AreHeadValues};
 ghost use Rattle.replay_form.specs.FrameFields.{Frame, IsWholeFrame};
 ghost use Rattle.replay_form.specs.Numbers.{number_at};
 ghost use Rattle.replay_form.specs.Reading.{StandsFor, IsFresh, IsStep, IsFailed, IsNewFault, IsFinished, IsUnfinished, begun, frames_after, held_frame};
@@ -109,6 +110,7 @@ impl RecordReader {
     pub fn head(&self) -> Option<&RecordHead>
         ensures head { MatchOption result (self.now.started ≡ false) (λ head. (self.now.started ≡ true) × (head.now ≡ self.now.head)) }
         ensures spelled { IfSome result (λ head. IsSpelledHead head.now) }
+        ensures valid { IfSome result (λ head. AreHeadValues head.now) }
     {
         if self.started { Some(&self.head) } else { None }
     }

@@ -1,18 +1,17 @@
 use Rattle.std.proofs.Common.{◌≡◌, ◌++◌, length, take, sym, ap, ◌∙◌, subst, append_assoc, length-drop, arith}
 use Rattle.difi_texts.specs.Lines.{entries}
 use Rattle.difi_cmd.specs.Steps.{IsWrongText, IsAlong}
-use Rattle.difi_cmd.proofs.Feeding.{along_step, standing_step, split_on, length_on, some_bytes, some_taken, count_within, place_moved, wrong_text}
+use Rattle.difi_cmd.proofs.Feeding.{along_step, standing_step, split_on, length_on, some_bytes, place_moved, wrong_text}
 use Rattle.difi_cmd.proofs.reading.feed_all.Goals as goal
 
 pub loop-rest-smaller : goal.loop-rest-smaller
 loop-rest-smaller g c =
-    let inv = c.loop-rest.invariant.stands in
     let rest = c.loop-rest.rest.now in
     let some = some_bytes rest (sym c.loop-rest-test.true ∙ c.is_empty.ensures) in
     omega (
       arith,
-      some_taken c.loop-rest.reader rest c.in-Ok.step.0 c.in-Ok.step.1 c.feed.new.self inv.taken inv.frames c.in-Ok.ensures.step inv.stands some,
-      count_within c.loop-rest.reader rest c.in-Ok.step.0 c.in-Ok.step.1 c.feed.new.self c.in-Ok.ensures.step,
+      c.in-Ok.ensures.progress some,
+      c.in-Ok.ensures.few,
       ap length c.behind-rest.ensures,
       length-drop c.in-Ok.step.0 rest,
     )
@@ -26,9 +25,9 @@ loop-rest-preserved g c =
     let event = c.in-Ok.step.1 in
     let new = c.feed.new.self in
     let step = c.in-Ok.ensures.step in
-    let few = count_within old rest count event new step in
+    let few = c.in-Ok.ensures.few in
     let moved = place_moved old rest count event new inv.stands.taken inv.stands.frames step inv.stands.stands in
-    let some = some_taken old rest count event new inv.stands.taken inv.stands.frames step inv.stands.stands (some_bytes rest (sym c.loop-rest-test.true ∙ c.is_empty.ensures)) in
+    let some = c.in-Ok.ensures.progress (some_bytes rest (sym c.loop-rest-test.true ∙ c.is_empty.ensures)) in
     record {
       front = inv.front ++ take count rest;
       split = split_on c.args.bytes.now inv.front rest count inv.split ∙ ap (λ l. (inv.front ++ take count rest) ++ l) (sym c.behind-rest.ensures);

@@ -1,5 +1,6 @@
 use Rattle.std.proofs.Common.{◌+◌, ◌*◌, length}
-use Rattle.release_form.proofs.Written.{next_words, same_behind}
+use Rattle.difi_context.proofs.EncodingLemmas.{same_behind}
+use Rattle.release_form.proofs.Written.{next_words}
 use Rattle.release_form.proofs.front.put_next.Goals as goal
 
 pub returns-clause-words : goal.returns-clause-words

@@ -5,14 +5,18 @@ use Rattle.replay_form.specs.Head.{IsHead}
 use Rattle.replay_form.specs.HeadFields.{is_second, route_size}
 use Rattle.replay_form.specs.HeadSpelling.{AreRoutesSpelled}
 use Rattle.replay_form.specs.HeadSpellingLaws.{head_start, head_form, identity_spelled, limits_spelled, routes_spelled, few_routes, size_told}
+use Rattle.replay_form.proofs.HeadSaid.{spelled_by_values}
 use Rattle.replay_form.proofs.head_spelling.encode_head.Goals as goal
 
 pub put_limits-requires-clause-few : goal.put_limits-requires-clause-few
-put_limits-requires-clause-few c = few_routes c.args.head.now c.requires.spelled.bytes c.requires.spelled.says
+put_limits-requires-clause-few c =
+    let s = spelled_by_values c.args.head.now c.requires.valid in
+    few_routes c.args.head.now s.bytes s.says
 
 pub put_routes-requires-clause-few : goal.put_routes-requires-clause-few
 put_routes-requires-clause-few c =
-    subst (λ routes. length routes ≤ 256) (sym c.as_slice-routes.ensures) (few_routes c.args.head.now c.requires.spelled.bytes c.requires.spelled.says)
+    let s = spelled_by_values c.args.head.now c.requires.valid in
+    subst (λ routes. length routes ≤ 256) (sym c.as_slice-routes.ensures) (few_routes c.args.head.now s.bytes s.says)
 
 pub returns-clause-again : goal.returns-clause-again
 returns-clause-again c = λ bytes fit is.
@@ -43,7 +47,7 @@ returns-clause-again c = λ bytes fit is.
 
 pub returns-clause-head : goal.returns-clause-head
 returns-clause-head c =
-    let s = c.requires.spelled in
+    let s = spelled_by_values c.args.head.now c.requires.valid in
     subst (IsHead c.args.head.now) (sym (returns-clause-again c s.bytes s.fit s.says)) s.says
 
 pub returns-clause-behind : goal.returns-clause-behind
@@ -51,7 +55,7 @@ returns-clause-behind c =
     let routes = c.as_slice-routes.result.now in
     let n = 332 + c.size_of_route.result * length routes in
     let same : 332 + c.size_of_route.result * length routes ≡ 332 + route_size (c.args.head.now.form == 2) * length routes = ap (λ k. 332 + k * length routes) c.size_of_route.ensures in
-    let s = c.requires.spelled in
+    let s = spelled_by_values c.args.head.now c.requires.valid in
     let is = s.says in
     let words = subst (λ x. AreNumbers x 44 4 s.bytes) (sym c.words_of-words.ensures) (identity_spelled c.args.head.now.identity s.bytes is.whole is.identity) in
     let four : length c.words_of-words.result ≡ 4 = words.all in
