@@ -1,4 +1,4 @@
-ghost use Rattle.std.specs.Prelude.{◌≡◌, ◌+◌, ◌*◌, ◌<◌, ◌≤◌, true, IsTrue, IfOk, length};
+ghost use Rattle.std.specs.Prelude.{◌≡◌, ◌≤◌, IsTrue, IfOk, length};
 ghost use Rattle.vrt_header.specs.Profile.{profile_of};
 ghost use Rattle.difi_context.specs.Context.{IsSpelled};
 ghost use Rattle.sample_binder.specs.Given.{IsDataOf};

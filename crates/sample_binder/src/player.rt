@@ -1,4 +1,4 @@
-ghost use Rattle.std.specs.Prelude.{◌≡◌, ◌≤◌, ◌<◌, true, false, [], IsTrue};
+ghost use Rattle.std.specs.Prelude.{◌≡◌, ◌≤◌, ◌<◌, true, false, []};
 ghost use Rattle.vrt_header.specs.Profile.{profile_of};
 ghost use Rattle.difi_context.specs.Context.{IsSpelled};
 ghost use Rattle.sample_binder.specs.Given.{IsDataOf};
