@@ -1,24 +1,50 @@
-ghost use Rattle.std.specs.Prelude.{◌≡◌, ◌+◌, ◌<◌, ◌≤◌, true, false, IsTrue, IfOk, OnOk, IfSome};
+ghost use Rattle.std.specs.Prelude.{◌≡◌, ◌≤◌, IsTrue, IfOk, length};
 ghost use Rattle.vrt_header.specs.Profile.{profile_of};
 ghost use Rattle.difi_context.specs.Context.{IsSpelled};
 ghost use Rattle.sample_binder.specs.Given.{IsDataOf};
-ghost use Rattle.sample_binder.specs.Binder.{AreLimits};
 
-use crate::{Binder, Limits, Out, Reason, Run};
 use difi_context::ContextRec;
 use std::alloc::Global;
-use std::test::Fail;
 use vrt_header::Profile;
 use vrt_time::{Moment, Stamp};
 use vrt_words::{PacketBuf, put_word};
 
-/// The change bit and the twelve fields, and the fields alone.
+/// A time on the test's clock: so many halves of a second after 1,699,999,999 s.
+#[derive(Clone, Copy)]
+pub(crate) struct Time(pub(crate) u8);
+
+/// A second before 1,700,000,000 s, and so many seconds after it.
+pub(crate) const BEFORE: Time = Time(0);
+
+pub(crate) const T0: Time = Time(2);
+
+pub(crate) const T0_5: Time = Time(3);
+
+pub(crate) const T1: Time = Time(4);
+
+pub(crate) const T1_5: Time = Time(5);
+
+pub(crate) const T2: Time = Time(6);
+
+pub(crate) const T3: Time = Time(8);
+
+/// CIF0 with the twelve fields, with the change bit and without it.
 pub(crate) const CHANGED: u32 = 0xFBB9_8000;
 
 pub(crate) const UNCHANGED: u32 = 0x7BB9_8000;
 
+/// The fields of a context, so far as they differ from one test to the next.
+#[derive(Clone, Copy)]
+pub(crate) struct Tuning {
+    pub(crate) gain: u32,
+    /// Units of 2^-20 Hz, in two words.
+    pub(crate) rate: (u32, u32),
+    /// The first word of the payload format.
+    pub(crate) format: u32,
+}
+
 /// The words of the fields of a context, of 350,000 Hz and 16 bits.
-pub(crate) const FIELDS: [u32; 19] = [
+const FIELDS: [u32; 19] = [
     0x64,
     0x44,
     0x5C00_0000,
@@ -40,91 +66,70 @@ pub(crate) const FIELDS: [u32; 19] = [
     0,
 ];
 
-/// A half of a second, in picoseconds, in two words.
-pub(crate) const HALF: (u32, u32) = (0x74, 0x6A52_8800);
+/// The words of the twelve fields.
+pub(crate) fn fields(tuning: Tuning) -> [u32; 19] {
+    let mut fields = FIELDS;
+    fields[10] = tuning.gain;
+    fields[11] = tuning.rate.0;
+    fields[12] = tuning.rate.1;
+    fields[17] = tuning.format;
+    fields
+}
+
+fn seconds(time: Time) -> u32 {
+    1_699_999_999 + u32::from(time.0 / 2)
+}
+
+// A half of a second is 0x74_6A52_8800 picoseconds.
+fn fraction(time: Time) -> (u32, u32) {
+    if time.0 % 2 == 0 {
+        (0, 0)
+    } else {
+        (0x74, 0x6A52_8800)
+    }
+}
+
+pub(crate) fn stamp(time: Time) -> Result<Stamp, &'static str> {
+    let (high, low) = fraction(time);
+    match Stamp::of_parts(seconds(time), high, low) {
+        Some(stamp) => Ok(stamp),
+        None => Err("no stamp"),
+    }
+}
+
+pub(crate) fn moment(time: Time) -> Moment {
+    Moment::of(1_699_999_999_000_000_000_000 + u128::from(time.0) * 500_000_000_000)
+}
 
 // The profile of the packets.
-pub(crate) fn profile() -> Result<Profile, Fail>
+pub(crate) fn profile() -> Result<Profile, &'static str>
     ensures { IfOk result (λ profile. profile ≡ profile_of 0x6A621E 1) }
 {
     match Profile::of(0x6A_621E, 1) {
         Some(profile) => Ok(profile),
-        None => Err(Fail::from("no profile")),
+        None => Err("no profile"),
     }
 }
 
-// A binder of windows of size 0.
-pub(crate) fn opened(alloc: Global, kept: u32, pending: u32) -> Result<Binder, Fail>
-    requires least { 2 ≤ kept }
-    requires most { kept ≤ 4096 }
-    requires some { 1 ≤ pending }
-    requires few { pending ≤ 1048576 }
-    ensures profile { IfOk result (λ binder. binder.profile ≡ profile_of 0x6A621E 1) }
-    ensures untold { IfOk result (λ binder. binder.told ≡ false) }
-    ensures given { IfOk result (λ binder. binder.given ≡ 0) }
+// Writes the first seven words of a packet.
+fn put_prologue(bytes: &mut [u8], first: u32, pad: u8, time: Time)
+    requires { 28 ≤ length bytes.old }
 {
-    let limits = Limits {
-        data_window: 0,
-        context_window: 0,
-        kept,
-        pending,
-    };
-    opened_with(alloc, limits)
+    let (high, low) = fraction(time);
+    put_word(bytes, 0, first);
+    put_word(bytes, 1, 1);
+    put_word(bytes, 2, 0x006A_621E + (u32::from(pad % 32) << 27));
+    put_word(bytes, 4, seconds(time));
+    put_word(bytes, 5, high);
+    put_word(bytes, 6, low);
 }
 
-pub(crate) fn opened_with(alloc: Global, limits: Limits) -> Result<Binder, Fail>
-    requires { AreLimits limits }
-    ensures profile { IfOk result (λ binder. binder.profile ≡ profile_of 0x6A621E 1) }
-    ensures untold { IfOk result (λ binder. binder.told ≡ false) }
-    ensures given { IfOk result (λ binder. binder.given ≡ 0) }
-{
-    match Binder::open(alloc, profile()?, limits) {
-        Ok(binder) => Ok(binder),
-        Err(_) => Err(Fail::from("memory")),
-    }
-}
-
-// A time: so many seconds after 1,700,000,000 s, and a fraction in picoseconds in two words.
-#[derive(Clone, Copy)]
-pub(crate) struct Time {
-    pub(crate) second: u8,
-    pub(crate) high: u32,
-    pub(crate) low: u32,
-}
-
-pub(crate) fn at(second: u8) -> Time {
-    Time {
-        second,
-        high: 0,
-        low: 0,
-    }
-}
-
-pub(crate) fn half_past(second: u8) -> Time {
-    Time {
-        second,
-        high: HALF.0,
-        low: HALF.1,
-    }
-}
-
-pub(crate) fn stamp(time: Time) -> Result<Stamp, Fail> {
-    match Stamp::of_parts(1_699_999_999 + u32::from(time.second), time.high, time.low) {
-        Some(stamp) => Ok(stamp),
-        None => Err(Fail::from("no stamp")),
-    }
-}
-
-// The bytes of a context with these fields.
-pub(crate) fn spelled(time: Time, count: u8, cif0: u32, fields: &[u32; 19]) -> [u8; 108] {
+// The bytes of a context packet.
+fn spelled(time: Time, count: u8, cif0: u32, fields: &[u32; 19]) -> [u8; 108] {
     let mut bytes = [0; 108];
-    put_word(&mut bytes, 0, 0x4960_001B + (u32::from(count % 16) << 16));
-    put_word(&mut bytes, 1, 1);
-    put_word(&mut bytes, 2, 0x006A_621E);
+    let first = 0x4960_001B + (u32::from(count % 16) << 16);
+    put_prologue(&mut bytes, first, 0, time);
     put_word(&mut bytes, 3, 1);
-    put_word(&mut bytes, 4, 1_699_999_999 + u32::from(time.second));
-    put_word(&mut bytes, 5, time.high);
-    put_word(&mut bytes, 6, time.low);
     put_word(&mut bytes, 7, cif0);
     for (i, word) in fields.iter().enumerate() {
         put_word(&mut bytes, 8 + i, *word);
@@ -132,287 +137,80 @@ pub(crate) fn spelled(time: Time, count: u8, cif0: u32, fields: &[u32; 19]) -> [
     bytes
 }
 
-pub(crate) fn context_of(
+pub(crate) fn context(
     time: Time,
     count: u8,
     cif0: u32,
-    fields: &[u32; 19],
-) -> Result<ContextRec, Fail>
+    tuning: Tuning,
+) -> Result<ContextRec, &'static str>
     ensures { IfOk result (λ rec. IsSpelled (profile_of 0x6A621E 1) rec) }
 {
-    match difi_context::decode(profile()?, &spelled(time, count, cif0, fields)) {
+    let bytes = spelled(time, count, cif0, &fields(tuning));
+    match difi_context::decode(profile()?, &bytes) {
         Ok(rec) => Ok(rec),
-        Err(_) => Err(Fail::from("no context")),
+        Err(_) => Err("no context"),
     }
 }
 
-// Gives a context with these fields.
-pub(crate) fn context(
-    binder: &mut Binder,
-    time: Time,
-    count: u8,
-    cif0: u32,
-    fields: &[u32; 19],
-) -> Result<(), Fail>
-    requires profile { binder.old.profile ≡ profile_of 0x6A621E 1 }
-    requires untold { binder.old.told ≡ false }
-    requires few { binder.old.given < 100 }
-    ensures profile { binder.new.profile ≡ binder.old.profile }
-    ensures told { binder.new.told ≡ binder.old.told }
-    ensures given { OnOk result (binder.new.given ≡ binder.old.given + 1) }
-{
-    match context_of(time, count, cif0, fields) {
-        Ok(rec) => give(binder, rec),
-        Err(fail) => Err(fail),
-    }
+/// The samples of a data packet.
+#[derive(Clone, Copy)]
+pub(crate) struct Payload {
+    /// Its words, of which the first four are these, and the rest 0.
+    pub(crate) words: u16,
+    pub(crate) front: [u32; 4],
+    /// The unused bits at its end.
+    pub(crate) pad: u8,
 }
 
-pub(crate) fn give(binder: &mut Binder, rec: ContextRec) -> Result<(), Fail>
-    requires profile { binder.old.profile ≡ profile_of 0x6A621E 1 }
-    requires untold { binder.old.told ≡ false }
-    requires few { binder.old.given < 100 }
-    requires spelled { IsSpelled (profile_of 0x6A621E 1) rec }
-    ensures profile { binder.new.profile ≡ binder.old.profile }
-    ensures told { binder.new.told ≡ binder.old.told }
-    ensures given { OnOk result (binder.new.given ≡ binder.old.given + 1) }
-{
-    if binder.owes() {
-        return Err(Fail::from("owes"));
-    }
-    match binder.context(rec) {
-        Ok(()) => Ok(()),
-        Err(_) => Err(Fail::from("turned")),
-    }
-}
-
-// The buffer of a data packet with this payload.
-pub(crate) fn buffer(
+// A buffer with a data packet.
+pub(crate) fn packet(
     alloc: Global,
     time: Time,
     count: u8,
-    pad: u8,
-    payload: &[u32; 4],
-    words: u8,
-) -> Result<PacketBuf, Fail>
-    requires few { words ≤ 4 }
+    payload: &Payload,
+) -> Result<PacketBuf, &'static str>
     ensures { IfOk result (λ buf. IsDataOf (profile_of 0x6A621E 1) buf.bytes) }
 {
-    let mut bytes = [0; 44];
-    let size = 7 + usize::from(words);
-    put_word(
-        &mut bytes,
-        0,
-        0x1860_0000 + (u32::from(count % 16) << 16) + size as u32,
-    );
-    put_word(&mut bytes, 1, 1);
-    put_word(&mut bytes, 2, 0x006A_621E + (u32::from(pad % 32) << 27));
-    put_word(&mut bytes, 4, 1_699_999_999 + u32::from(time.second));
-    put_word(&mut bytes, 5, time.high);
-    put_word(&mut bytes, 6, time.low);
-    for (i, word) in payload.iter().enumerate() {
-        put_word(&mut bytes, 7 + i, *word);
+    if payload.words > 16_369 {
+        return Err("too long");
     }
-    let mut buf = match PacketBuf::open(alloc, 11) {
-        Ok(buf) => buf,
-        Err(_) => return Err(Fail::from("memory")),
+    let words = 7 + u32::from(payload.words);
+    let Ok(mut bytes) = vec![in alloc; 0; 4 * words as usize] else {
+        return Err("memory");
     };
-    buf.fill(&bytes[..4 * size]);
+    let first = 0x1860_0000 + (u32::from(count % 16) << 16) + words;
+    put_prologue(&mut bytes, first, payload.pad, time);
+    put_front(&mut bytes[28..], &payload.front);
+    let Ok(mut buf) = PacketBuf::open(alloc, words) else {
+        return Err("memory");
+    };
+    buf.fill(&bytes);
     checked(buf)
 }
 
+// Writes the first words of a payload, so many as it has.
+fn put_front(bytes: &mut [u8], front: &[u32; 4]) {
+    for (i, word) in front.iter().enumerate() {
+        if 4 * i + 4 <= bytes.len() {
+            put_word(bytes, i, *word);
+        }
+    }
+}
+
 // The buffer, where it has a data packet.
-pub(crate) fn checked(buf: PacketBuf) -> Result<PacketBuf, Fail>
+fn checked(buf: PacketBuf) -> Result<PacketBuf, &'static str>
     ensures { IfOk result (λ buf. IsDataOf (profile_of 0x6A621E 1) buf.bytes) }
 {
     if is_data(profile()?, &buf) {
         Ok(buf)
     } else {
-        Err(turned(buf))
+        drop(buf);
+        Err("no data packet")
     }
 }
 
-pub(crate) fn is_data(profile: Profile, buf: &PacketBuf) -> bool
+fn is_data(profile: Profile, buf: &PacketBuf) -> bool
     ensures { IsTrue result → IsDataOf profile buf.now.bytes }
 {
     difi_data::decode(profile, buf.bytes()).is_ok()
-}
-
-// Gives a data packet.
-pub(crate) fn data(binder: &mut Binder, buf: PacketBuf) -> Result<(), Fail>
-    requires profile { binder.old.profile ≡ profile_of 0x6A621E 1 }
-    requires untold { binder.old.told ≡ false }
-    requires few { binder.old.given < 100 }
-    requires grammar { IsDataOf (profile_of 0x6A621E 1) buf.bytes }
-    ensures profile { binder.new.profile ≡ binder.old.profile }
-    ensures told { binder.new.told ≡ binder.old.told }
-    ensures given { OnOk result (binder.new.given ≡ binder.old.given + 1) }
-{
-    if binder.owes() {
-        return Err(Fail::from("owes"));
-    }
-    match binder.data(buf) {
-        Ok(()) => Ok(()),
-        Err((_, buf)) => Err(turned(buf)),
-    }
-}
-
-pub(crate) fn turned(buf: PacketBuf) -> Fail {
-    drop(buf);
-    Fail::from("turned")
-}
-
-// The next output, which is to be a packet: the number lost before it.
-pub(crate) fn next_packet(binder: &mut Binder) -> Result<u8, Fail>
-    ensures profile { binder.new.profile ≡ binder.old.profile }
-    ensures told { binder.new.told ≡ binder.old.told }
-    ensures given { binder.new.given ≡ binder.old.given }
-{
-    let Some(out) = binder.next_out() else {
-        return Err(Fail::from("nothing"));
-    };
-    match out {
-        Out::Packet { buf, lost } => {
-            drop(buf);
-            Ok(lost)
-        }
-        Out::Run(_) => Err(Fail::from("no packet")),
-    }
-}
-
-// The next output, which is to be a run.
-pub(crate) fn next_run(binder: &mut Binder) -> Result<Run, Fail>
-    ensures profile { binder.new.profile ≡ binder.old.profile }
-    ensures told { binder.new.told ≡ binder.old.told }
-    ensures given { binder.new.given ≡ binder.old.given }
-{
-    let Some(out) = binder.next_out() else {
-        return Err(Fail::from("nothing"));
-    };
-    match out {
-        Out::Run(run) => Ok(run),
-        Out::Packet { buf, lost: _ } => Err(turned(buf)),
-    }
-}
-
-// A whole packet is next, with this reason.
-pub(crate) fn raw(binder: &mut Binder, reason: Reason, time: Time, pad: u8) -> Result<(), Fail>
-    ensures profile { binder.new.profile ≡ binder.old.profile }
-    ensures told { binder.new.told ≡ binder.old.told }
-    ensures given { binder.new.given ≡ binder.old.given }
-{
-    let stamp = stamp(time)?;
-    if next_packet(binder)? != 0 {
-        return Err(Fail::from("lost"));
-    }
-    if next_run(binder)? == (Run::Raw { reason, stamp, pad }) {
-        Ok(())
-    } else {
-        Err(Fail::from("another run"))
-    }
-}
-
-// Where samples of a packet stand.
-#[derive(Clone, Copy)]
-pub(crate) struct Part {
-    pub(crate) time: Time,
-    pub(crate) first: u32,
-    pub(crate) number: u32,
-    /// Picoseconds after 1,700,000,000 s.
-    pub(crate) after: u64,
-    pub(crate) bits: u8,
-}
-
-pub(crate) fn samples_from(time: Time, first: u32, number: u32, after: u64, bits: u8) -> Part {
-    Part {
-        time,
-        first,
-        number,
-        after,
-        bits,
-    }
-}
-
-// A run of bound samples is next.
-pub(crate) fn bound(binder: &mut Binder, part: Part, fields: &[u32; 19]) -> Result<(), Fail>
-    ensures profile { binder.new.profile ≡ binder.old.profile }
-    ensures told { binder.new.told ≡ binder.old.told }
-    ensures given { binder.new.given ≡ binder.old.given }
-{
-    let run = Run::Bound {
-        stamp: stamp(part.time)?,
-        first: part.first,
-        number: part.number,
-        at: Moment::of(1_700_000_000_000_000_000_000 + u128::from(part.after)),
-        fields: *fields,
-        bits: part.bits,
-    };
-    if next_run(binder)? == run {
-        Ok(())
-    } else {
-        Err(Fail::from("another run"))
-    }
-}
-
-// A run of uncertain samples is next.
-pub(crate) fn uncertain(binder: &mut Binder, part: Part, reason: Reason) -> Result<(), Fail>
-    ensures profile { binder.new.profile ≡ binder.old.profile }
-    ensures told { binder.new.told ≡ binder.old.told }
-    ensures given { binder.new.given ≡ binder.old.given }
-{
-    let run = Run::Uncertain {
-        reason,
-        stamp: stamp(part.time)?,
-        first: part.first,
-        number: part.number,
-        at: Moment::of(1_700_000_000_000_000_000_000 + u128::from(part.after)),
-        bits: part.bits,
-    };
-    if next_run(binder)? == run {
-        Ok(())
-    } else {
-        Err(Fail::from("another run"))
-    }
-}
-
-// The fields with this gain, rate and payload format.
-pub(crate) fn fields(gain: u32, rate: (u32, u32), format: u32) -> [u32; 19] {
-    let mut fields = FIELDS;
-    fields[10] = gain;
-    fields[11] = rate.0;
-    fields[12] = rate.1;
-    fields[17] = format;
-    fields
-}
-
-/// 16 bits an item.
-pub(crate) const SIXTEEN: u32 = 0xA000_03CF;
-
-/// 4 bits an item.
-pub(crate) const FOUR: u32 = 0xA000_00C3;
-
-/// Two hertz, and four, in units of 2^-20 Hz.
-pub(crate) const TWO_HERTZ: (u32, u32) = (0, 0x0020_0000);
-
-pub(crate) const FOUR_HERTZ: (u32, u32) = (0, 0x0040_0000);
-
-/// Four samples of 16 bits.
-pub(crate) const PAYLOAD: [u32; 4] = [0x0001_0002, 0x0003_0004, 0x0005_0006, 0x0007_0008];
-
-pub(crate) const SECOND: u64 = 1_000_000_000_000;
-
-// A packet of the most words, 65,476 samples of 4 bits.
-pub(crate) fn longest(alloc: Global) -> Result<PacketBuf, Fail>
-    ensures { IfOk result (λ buf. IsDataOf (profile_of 0x6A621E 1) buf.bytes) }
-{
-    let mut bytes = vec![in alloc; 0; 65504]?;
-    put_word(&mut bytes, 0, 0x1860_3FF8);
-    put_word(&mut bytes, 1, 1);
-    put_word(&mut bytes, 2, 0x006A_621E);
-    put_word(&mut bytes, 4, 1_700_000_000);
-    let mut buf = match PacketBuf::open(alloc, 16_376) {
-        Ok(buf) => buf,
-        Err(_) => return Err(Fail::from("memory")),
-    };
-    buf.fill(&bytes);
-    checked(buf)
 }

@@ -18,6 +18,8 @@ mod leaving;
 mod limits;
 mod out;
 mod pending;
+#[cfg(test)]
+mod player;
 mod queue;
 mod reason;
 mod release;
@@ -25,6 +27,8 @@ mod run;
 mod runs;
 mod sampled;
 mod sampling;
+#[cfg(test)]
+mod script;
 mod shape;
 #[cfg(test)]
 mod tests;

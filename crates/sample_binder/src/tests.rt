@@ -1,21 +1,432 @@
-use super::*;
 use crate::harness::*;
+use crate::script::Step::{
+    Bound, Context, ContextTurned, Data, DataTurned, End, Nothing, Packet, Raw, Uncertain,
+};
+use crate::script::{Answer, Step, Wrong, play};
+use crate::{Limits, Reason};
 use std::alloc::Global;
-use std::test::Fail;
+
+/// Windows of size 0: four contexts are kept, and eight packets may wait.
+const LIMITS: Limits = Limits {
+    data_window: 0,
+    context_window: 0,
+    kept: 4,
+    pending: 8,
+};
+
+const ONE_WAITS: Limits = Limits {
+    data_window: 0,
+    context_window: 0,
+    kept: 4,
+    pending: 1,
+};
+
+const TWO_WAIT: Limits = Limits {
+    data_window: 0,
+    context_window: 0,
+    kept: 4,
+    pending: 2,
+};
+
+const TWO_KEPT: Limits = Limits {
+    data_window: 0,
+    context_window: 0,
+    kept: 2,
+    pending: 8,
+};
+
+/// Windows of size 1.
+const ONE_HELD: Limits = Limits {
+    data_window: 1,
+    context_window: 1,
+    kept: 4,
+    pending: 8,
+};
+
+/// 350,000 Hz, and 16 bits an item.
+const PLAIN: Tuning = Tuning {
+    gain: 0x500,
+    rate: (0x55, 0x7300_0000),
+    format: 0xA000_03CF,
+};
+
+const OTHER_GAIN: Tuning = Tuning {
+    gain: 0x600,
+    rate: (0x55, 0x7300_0000),
+    format: 0xA000_03CF,
+};
+
+/// 2 Hz and 4 Hz, and 16 bits an item.
+const SLOW: Tuning = Tuning {
+    gain: 0x500,
+    rate: (0, 0x0020_0000),
+    format: 0xA000_03CF,
+};
+
+const SLOW_OTHER_GAIN: Tuning = Tuning {
+    gain: 0x600,
+    rate: (0, 0x0020_0000),
+    format: 0xA000_03CF,
+};
+
+const FASTER: Tuning = Tuning {
+    gain: 0x500,
+    rate: (0, 0x0040_0000),
+    format: 0xA000_03CF,
+};
+
+/// 2 Hz, and 4 bits an item.
+const NARROW: Tuning = Tuning {
+    gain: 0x500,
+    rate: (0, 0x0020_0000),
+    format: 0xA000_00C3,
+};
+
+/// 32,738 Hz, and 4 bits an item.
+const LONG: Tuning = Tuning {
+    gain: 0x500,
+    rate: (7, 0xFE20_0000),
+    format: 0xA000_00C3,
+};
+
+const LONG_OTHER_GAIN: Tuning = Tuning {
+    gain: 0x600,
+    rate: (7, 0xFE20_0000),
+    format: 0xA000_00C3,
+};
+
+/// One, two and four samples of two items of 16 bits.
+const ONE: Payload = Payload {
+    words: 1,
+    front: [0x0001_0002, 0, 0, 0],
+    pad: 0,
+};
+
+const TWO: Payload = Payload {
+    words: 2,
+    front: [0x0001_0002, 0x0003_0004, 0, 0],
+    pad: 0,
+};
+
+const FOUR: Payload = Payload {
+    words: 4,
+    front: [0x0001_0002, 0x0003_0004, 0x0005_0006, 0x0007_0008],
+    pad: 0,
+};
+
+/// 20 bits, and 16.
+const TWENTY_BITS: Payload = Payload {
+    words: 1,
+    front: [0x7F80_0000, 0, 0, 0],
+    pad: 12,
+};
+
+const SIXTEEN_BITS: Payload = Payload {
+    words: 1,
+    front: [0x7F80_0000, 0, 0, 0],
+    pad: 16,
+};
+
+/// The longest: 65,476 samples of two items of 4 bits.
+const LONGEST: Payload = Payload {
+    words: 16_369,
+    front: [0, 0, 0, 0],
+    pad: 0,
+};
 
 #[test]
-fn a_packet_leaves_at_the_second_context(rt: HostRuntime) -> Result<(), Fail> {
-    let alloc = rt.alloc();
-    let mut binder = opened(alloc, 4, 8)?;
-    context(&mut binder, at(1), 0, CHANGED, &FIELDS)?;
-    data(&mut binder, buffer(alloc, at(1), 0, 0, &PAYLOAD, 2)?)?;
-    assert!(rt; !binder.owes());
-    context(&mut binder, at(2), 1, CHANGED, &FIELDS)?;
-    assert!(rt; binder.owes());
-    assert_eq!(rt; next_packet(&mut binder)?, 0);
-    let next = samples_from(at(1), 0, 2, 0, 16);
-    bound(&mut binder, next, &FIELDS)?;
-    assert!(rt; !binder.owes());
-    assert!(rt; binder.next_out().is_none());
-    Ok(())
+fn a_packet_leaves_at_the_second_context(rt: HostRuntime) -> Result<(), Wrong> {
+    let steps = [
+        Context(T0, 0, CHANGED, PLAIN),
+        Data(T0, 0, TWO),
+        Nothing,
+        Context(T1, 1, CHANGED, PLAIN),
+        Packet(0),
+        Bound(T0, 0, 2, T0, PLAIN, 16),
+        Nothing,
+    ];
+    play(rt.alloc(), LIMITS, &steps)
+}
+
+// Contexts at 0 and 1 s and this one, and then a packet at 1.5 s, which leaves with this run.
+fn across_a_loss(alloc: Global, third: Step, run: Step) -> Result<(), Wrong> {
+    let steps = [
+        Context(T0, 0, CHANGED, PLAIN),
+        Context(T1, 1, CHANGED, PLAIN),
+        third,
+        Data(T1_5, 0, ONE),
+        Packet(0),
+        run,
+        Nothing,
+    ];
+    play(alloc, LIMITS, &steps)
+}
+
+#[test]
+fn a_lost_context_is_told(rt: HostRuntime) -> Result<(), Wrong> {
+    let run = Raw(Reason::ContextLost(1), T1_5, 0);
+    across_a_loss(rt.alloc(), Context(T3, 3, CHANGED, PLAIN), run)
+}
+
+#[test]
+fn a_loss_that_changed_nothing_is_healed(rt: HostRuntime) -> Result<(), Wrong> {
+    let run = Bound(T1_5, 0, 1, T1_5, PLAIN, 16);
+    across_a_loss(rt.alloc(), Context(T3, 3, UNCHANGED, PLAIN), run)
+}
+
+#[test]
+fn a_loss_before_other_fields_is_not_healed(rt: HostRuntime) -> Result<(), Wrong> {
+    let run = Raw(Reason::ContextLost(1), T1_5, 0);
+    across_a_loss(rt.alloc(), Context(T3, 3, UNCHANGED, OTHER_GAIN), run)
+}
+
+#[test]
+fn two_lost_contexts_are_not_healed(rt: HostRuntime) -> Result<(), Wrong> {
+    let run = Raw(Reason::ContextLost(2), T1_5, 0);
+    across_a_loss(rt.alloc(), Context(T3, 4, UNCHANGED, PLAIN), run)
+}
+
+// Contexts at 0 s, this one, and at 2 s, and then four samples from 0 s on, at 2 Hz, which leave with these runs.
+fn across_a_context(
+    alloc: Global,
+    second: Step,
+    first_run: Step,
+    second_run: Step,
+) -> Result<(), Wrong> {
+    let steps = [
+        Context(T0, 0, CHANGED, SLOW),
+        second,
+        Context(T2, 2, CHANGED, SLOW),
+        Data(T0, 0, FOUR),
+        Packet(0),
+        first_run,
+        second_run,
+        Nothing,
+    ];
+    play(alloc, LIMITS, &steps)
+}
+
+#[test]
+fn samples_on_both_sides_of_a_context_are_two_runs(rt: HostRuntime) -> Result<(), Wrong> {
+    let second = Context(T1, 1, CHANGED, SLOW_OTHER_GAIN);
+    let first_run = Bound(T0, 0, 2, T0, SLOW, 16);
+    let second_run = Bound(T0, 2, 2, T1, SLOW_OTHER_GAIN, 16);
+    across_a_context(rt.alloc(), second, first_run, second_run)
+}
+
+#[test]
+fn a_context_at_the_last_sample_has_that_sample(rt: HostRuntime) -> Result<(), Wrong> {
+    let second = Context(T1_5, 1, CHANGED, SLOW_OTHER_GAIN);
+    let first_run = Bound(T0, 0, 3, T0, SLOW, 16);
+    let second_run = Bound(T0, 3, 1, T1_5, SLOW_OTHER_GAIN, 16);
+    across_a_context(rt.alloc(), second, first_run, second_run)
+}
+
+#[test]
+fn samples_at_another_rate_are_uncertain(rt: HostRuntime) -> Result<(), Wrong> {
+    let second = Context(T1, 1, CHANGED, FASTER);
+    let first_run = Bound(T0, 0, 2, T0, SLOW, 16);
+    let second_run = Uncertain(Reason::FormatChanged, T0, 2, 2, T1, 16);
+    across_a_context(rt.alloc(), second, first_run, second_run)
+}
+
+#[test]
+fn the_longest_packet_is_cut_at_each_context(rt: HostRuntime) -> Result<(), Wrong> {
+    let steps = [
+        Context(T0, 0, CHANGED, LONG),
+        Context(T0_5, 1, CHANGED, LONG_OTHER_GAIN),
+        Context(T1, 2, CHANGED, LONG),
+        Context(T3, 3, CHANGED, LONG),
+        Data(T0, 0, LONGEST),
+        Packet(0),
+        Bound(T0, 0, 16_369, T0, LONG, 4),
+        Bound(T0, 16_369, 16_369, T0_5, LONG_OTHER_GAIN, 4),
+        Bound(T0, 32_738, 32_738, T1, LONG, 4),
+        Nothing,
+    ];
+    play(rt.alloc(), LIMITS, &steps)
+}
+
+#[test]
+fn the_first_leaves_where_too_many_wait(rt: HostRuntime) -> Result<(), Wrong> {
+    let steps = [
+        Context(T0, 0, CHANGED, PLAIN),
+        Data(T0, 0, ONE),
+        Data(T1, 1, ONE),
+        Nothing,
+        Data(T2, 2, ONE),
+        Packet(0),
+        Raw(Reason::PendingFull, T0, 0),
+        Nothing,
+        End,
+        Packet(0),
+        Raw(Reason::Ended, T1, 0),
+        Packet(0),
+        Raw(Reason::Ended, T2, 0),
+        Nothing,
+    ];
+    play(rt.alloc(), TWO_WAIT, &steps)
+}
+
+#[test]
+fn an_open_tail_is_uncertain_where_too_many_wait(rt: HostRuntime) -> Result<(), Wrong> {
+    let steps = [
+        Context(T0, 0, CHANGED, SLOW),
+        Context(T1, 1, CHANGED, SLOW),
+        Data(T0, 0, FOUR),
+        Nothing,
+        Data(T2, 1, ONE),
+        Packet(0),
+        Bound(T0, 0, 2, T0, SLOW, 16),
+        Uncertain(Reason::PendingFull, T0, 2, 2, T1, 16),
+        Nothing,
+    ];
+    play(rt.alloc(), ONE_WAITS, &steps)
+}
+
+#[test]
+fn a_context_that_is_no_longer_kept_is_told(rt: HostRuntime) -> Result<(), Wrong> {
+    let steps = [
+        Context(T0, 0, CHANGED, PLAIN),
+        Context(T1, 1, CHANGED, PLAIN),
+        Context(T2, 2, CHANGED, PLAIN),
+        Data(T0_5, 0, ONE),
+        Packet(0),
+        Raw(Reason::TimelineFull, T0_5, 0),
+        Nothing,
+    ];
+    play(rt.alloc(), TWO_KEPT, &steps)
+}
+
+#[test]
+fn a_packet_before_the_first_context_leaves_with_it(rt: HostRuntime) -> Result<(), Wrong> {
+    let steps = [
+        Data(BEFORE, 0, ONE),
+        Nothing,
+        Context(T0, 0, CHANGED, PLAIN),
+        Packet(0),
+        Raw(Reason::BeforeFirst, BEFORE, 0),
+        Nothing,
+        Context(T1, 1, CHANGED, PLAIN),
+        Nothing,
+    ];
+    play(rt.alloc(), LIMITS, &steps)
+}
+
+#[test]
+fn a_packet_with_no_context_leaves_at_the_end(rt: HostRuntime) -> Result<(), Wrong> {
+    let steps = [
+        Data(T0, 0, ONE),
+        Nothing,
+        End,
+        Packet(0),
+        Raw(Reason::Ended, T0, 0),
+        Nothing,
+    ];
+    play(rt.alloc(), LIMITS, &steps)
+}
+
+#[test]
+fn a_payload_that_does_not_divide_leaves_whole(rt: HostRuntime) -> Result<(), Wrong> {
+    let steps = [
+        Context(T0, 0, CHANGED, NARROW),
+        Context(T2, 1, CHANGED, NARROW),
+        Data(T0, 0, TWENTY_BITS),
+        Packet(0),
+        Raw(Reason::Shape, T0, 12),
+        Nothing,
+        Data(T0_5, 1, SIXTEEN_BITS),
+        Packet(0),
+        Bound(T0_5, 0, 2, T0_5, NARROW, 4),
+        Nothing,
+    ];
+    play(rt.alloc(), LIMITS, &steps)
+}
+
+#[test]
+fn the_number_of_packets_lost_is_told(rt: HostRuntime) -> Result<(), Wrong> {
+    let steps = [
+        Context(T0, 0, CHANGED, PLAIN),
+        Context(T3, 1, CHANGED, PLAIN),
+        Data(T0, 15, ONE),
+        Packet(0),
+        Bound(T0, 0, 1, T0, PLAIN, 16),
+        Data(T1, 2, ONE),
+        Packet(2),
+        Bound(T1, 0, 1, T1, PLAIN, 16),
+        Nothing,
+    ];
+    play(rt.alloc(), LIMITS, &steps)
+}
+
+#[test]
+fn a_late_packet_comes_back(rt: HostRuntime) -> Result<(), Wrong> {
+    let steps = [
+        Data(T1, 0, ONE),
+        DataTurned(T0, 1, TWO, Answer::Late(T1)),
+        DataTurned(T1, 0, ONE, Answer::Late(T1)),
+        Data(T2, 1, ONE),
+        Nothing,
+    ];
+    play(rt.alloc(), LIMITS, &steps)
+}
+
+#[test]
+fn a_held_packet_turns_a_repeat_and_a_conflict_away(rt: HostRuntime) -> Result<(), Wrong> {
+    let steps = [
+        Data(T0, 3, ONE),
+        DataTurned(T0, 3, ONE, Answer::Repeat),
+        DataTurned(T0, 5, ONE, Answer::Conflict(3)),
+        DataTurned(T0, 3, TWO, Answer::Conflict(3)),
+        Nothing,
+    ];
+    play(rt.alloc(), ONE_HELD, &steps)
+}
+
+#[test]
+fn a_late_context_is_turned_away(rt: HostRuntime) -> Result<(), Wrong> {
+    let steps = [
+        Context(T1, 0, CHANGED, PLAIN),
+        ContextTurned(T0, 1, CHANGED, PLAIN, Answer::Late(T1)),
+        Context(T2, 1, CHANGED, PLAIN),
+        Nothing,
+    ];
+    play(rt.alloc(), LIMITS, &steps)
+}
+
+#[test]
+fn a_held_context_turns_a_repeat_and_a_conflict_away(rt: HostRuntime) -> Result<(), Wrong> {
+    let steps = [
+        Context(T0, 3, CHANGED, PLAIN),
+        ContextTurned(T0, 3, CHANGED, PLAIN, Answer::Repeat),
+        ContextTurned(T0, 5, CHANGED, PLAIN, Answer::Conflict(3)),
+        ContextTurned(T0, 3, UNCHANGED, PLAIN, Answer::Conflict(3)),
+        ContextTurned(T0, 3, CHANGED, OTHER_GAIN, Answer::Conflict(3)),
+        Nothing,
+    ];
+    play(rt.alloc(), ONE_HELD, &steps)
+}
+
+#[test]
+fn what_is_held_leaves_in_order_at_the_end(rt: HostRuntime) -> Result<(), Wrong> {
+    let steps = [
+        Context(T0, 0, CHANGED, PLAIN),
+        Context(T1, 1, CHANGED, OTHER_GAIN),
+        Context(T3, 2, CHANGED, PLAIN),
+        Data(T1, 1, ONE),
+        Nothing,
+        Data(T0, 0, ONE),
+        Packet(0),
+        Bound(T0, 0, 1, T0, PLAIN, 16),
+        Nothing,
+        Data(T2, 2, TWO),
+        Nothing,
+        End,
+        Packet(0),
+        Bound(T1, 0, 1, T1, OTHER_GAIN, 16),
+        Packet(0),
+        Bound(T2, 0, 2, T2, OTHER_GAIN, 16),
+        Nothing,
+    ];
+    play(rt.alloc(), ONE_HELD, &steps)
 }

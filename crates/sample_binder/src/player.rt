@@ -1,0 +1,129 @@
+ghost use Rattle.std.specs.Prelude.{◌≡◌, ◌≤◌, ◌<◌, true, false, []};
+ghost use Rattle.vrt_header.specs.Profile.{profile_of};
+ghost use Rattle.difi_context.specs.Context.{IsSpelled};
+ghost use Rattle.sample_binder.specs.Given.{IsDataOf};
+ghost use Rattle.sample_binder.specs.Binder.{AreLimits};
+ghost use Rattle.sample_binder.specs.Queue.{owed};
+
+use crate::harness::profile;
+use crate::{Binder, Limits, Out, Run, Turned};
+use difi_context::ContextRec;
+use std::alloc::Global;
+use vrt_words::PacketBuf;
+
+/// The most packets that a test gives.
+const MOST: u32 = 100;
+
+/// A binder under test.
+#[derive(Drop)]
+pub(crate) struct Player {
+    binder: Binder,
+    given: u32,
+    told: bool,
+    ghost of_profile: { binder.profile ≡ profile_of 0x6A621E 1 },
+    ghost counted: { binder.given ≤ given },
+    ghost told_too: { binder.told ≡ told },
+}
+
+impl Player {
+    pub(crate) fn open(alloc: Global, limits: Limits) -> Result<Player, &'static str>
+        requires { AreLimits limits }
+    {
+        match Binder::open(alloc, profile()?, limits) {
+            Ok(binder) => Ok(Player {
+                binder,
+                given: 0,
+                told: false,
+            }),
+            Err(_) => Err("memory"),
+        }
+    }
+
+    // Whether a packet can be given.
+    fn is_ready(&self) -> bool
+        ensures nothing { result ≡ true → owed self.now.binder.state ≡ [] }
+        ensures untold { result ≡ true → self.now.told ≡ false }
+        ensures few { result ≡ true → self.now.given < 100 }
+    {
+        !self.told && self.given < MOST && !self.binder.owes()
+    }
+
+    // The binder's answer to a context.
+    pub(crate) fn context(&mut self, rec: ContextRec) -> Result<Option<Turned>, &'static str>
+        requires { IsSpelled (profile_of 0x6A621E 1) rec }
+    {
+        if !self.is_ready() {
+            return Err("not ready");
+        }
+        self.given += 1;
+        match self.binder.context(rec) {
+            Ok(()) => Ok(None),
+            Err(turned) => Ok(Some(turned)),
+        }
+    }
+
+    // The binder's answer to a data packet, with the buffer where it comes back.
+    pub(crate) fn data(
+        &mut self,
+        buf: PacketBuf,
+    ) -> Result<Option<(Turned, PacketBuf)>, &'static str>
+        requires { IsDataOf (profile_of 0x6A621E 1) buf.bytes }
+    {
+        if !self.is_ready() {
+            return Err("not ready");
+        }
+        self.given += 1;
+        match self.binder.data(buf) {
+            Ok(()) => Ok(None),
+            Err(turned) => Ok(Some(turned)),
+        }
+    }
+
+    pub(crate) fn end(&mut self) -> Result<(), &'static str> {
+        if self.told || self.binder.owes() {
+            return Err("not ready");
+        }
+        self.told = true;
+        self.binder.end();
+        Ok(())
+    }
+
+    // The next output, which is to be a packet: the number lost before it.
+    pub(crate) fn packet(&mut self) -> Result<u8, &'static str> {
+        if !self.binder.owes() {
+            return Err("nothing");
+        }
+        match self.binder.next_out() {
+            Some(Out::Packet { buf, lost }) => {
+                drop(buf);
+                Ok(lost)
+            }
+            Some(Out::Run(_)) => Err("a run"),
+            None => Err("nothing"),
+        }
+    }
+
+    // The next output, which is to be a run.
+    pub(crate) fn run(&mut self) -> Result<Run, &'static str> {
+        if !self.binder.owes() {
+            return Err("nothing");
+        }
+        match self.binder.next_out() {
+            Some(Out::Run(run)) => Ok(run),
+            Some(Out::Packet { buf, lost: _ }) => {
+                drop(buf);
+                Err("a packet")
+            }
+            None => Err("nothing"),
+        }
+    }
+
+    // Nothing is due.
+    pub(crate) fn nothing(&mut self) -> Result<(), &'static str> {
+        if self.binder.owes() || self.binder.next_out().is_some() {
+            Err("something")
+        } else {
+            Ok(())
+        }
+    }
+}
