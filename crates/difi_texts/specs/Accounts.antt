@@ -1,6 +1,6 @@
 -- What is told of a packet, and of what is none.
 use Rattle.std.specs.Prelude.{[]}
-use Rattle.difi_packet.specs.Packet.{PacketValue, DataValue, ContextValue, VersionValue}
+use Rattle.difi_packet.specs.Packet.{PacketValue, DataValue, ContextValue, VersionValue, ControlValue, CancelValue, AckValue}
 use Rattle.ack_codec.specs.declared.ack.Ack.{Ack}
 use Rattle.ack_codec.specs.declared.ack.Ack.TheVariants.{V, X, S}
 use Rattle.difi_texts.specs.declared.lines.Judgement.{Judgement}
@@ -21,6 +21,9 @@ abbrev pub accepted : PacketValue → Judgement
 accepted (DataValue packet) = Accepted kinds.Data packet.prologue.stream
 accepted (ContextValue rec) = Accepted kinds.Context rec.prologue.stream
 accepted (VersionValue rec) = Accepted kinds.Version rec.prologue.stream
+accepted (ControlValue packet) = Accepted kinds.Control packet.prologue.stream
+accepted (CancelValue packet) = Accepted kinds.Cancel packet.prologue.stream
+accepted (AckValue packet) = accepted_ack packet
 
 -- what is told of a packet, and of what is turned away
 abbrev pub account_of : Listing → PacketValue → Account

@@ -9,8 +9,9 @@ use Rattle.difi_data.specs.Data.{DataPacket}
 use Rattle.difi_context.specs.Context.{field_of}
 use Rattle.difi_context.specs.declared.context.ContextRec.{ContextRec}
 use Rattle.difi_version.specs.declared.version.VersionRec.{VersionRec}
+use Rattle.difi_texts.specs.CommandDetails.{control_details, cancel_details, ack_details}
 use Rattle.difi_texts.specs.Prologue.{indented, common}
-use Rattle.difi_packet.specs.Packet.{PacketValue, DataValue, ContextValue, VersionValue}
+use Rattle.difi_packet.specs.Packet.{PacketValue, DataValue, ContextValue, VersionValue, ControlValue, CancelValue, AckValue}
 use Rattle.difi_texts.specs.declared.lines.Listing.{Listing}
 use Rattle.difi_texts.specs.declared.lines.Listing.TheVariants.{Check, Show}
 
@@ -43,6 +44,9 @@ abbrev pub details : PacketValue → List ℕ
 details (DataValue packet) = data_details packet
 details (ContextValue rec) = context_details rec
 details (VersionValue rec) = version_details rec
+details (ControlValue packet) = control_details packet
+details (CancelValue packet) = cancel_details packet
+details (AckValue packet) = ack_details packet
 
 -- what stands under the line of an accepted packet: check has nothing there
 abbrev pub under : Listing → PacketValue → List ℕ

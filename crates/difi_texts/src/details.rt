@@ -9,6 +9,7 @@ ghost use Rattle.difi_packet.specs.Packet.{value_of};
 ghost use Rattle.difi_texts.specs.Prologue.{indented, time, common};
 ghost use Rattle.difi_texts.specs.Details.{changes, field_line, data_details, context_details, version, version_details, details, under};
 
+use crate::command_details::{push_ack, push_cancel, push_control};
 use crate::fields::all_fields;
 use crate::lines::Listing;
 use crate::text_buffer::TextBuffer;
@@ -43,6 +44,9 @@ fn push_details(alloc: Global, out: &mut TextBuffer, packet: &Packet<'_>)
         Packet::Data(rec) => push_data(out, rec),
         Packet::Context(rec) => push_context(alloc, out, rec),
         Packet::Version(rec) => push_version(out, rec),
+        Packet::Control(packet) => push_control(alloc, out, packet),
+        Packet::Cancel(packet) => push_cancel(out, packet),
+        Packet::Ack(packet) => push_ack(alloc, out, packet),
     }
 }
 

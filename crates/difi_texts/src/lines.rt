@@ -65,11 +65,20 @@ pub fn accepted(packet: &Packet<'_>) -> Judgement
             kind: PacketKind::Version,
             stream: rec.prologue.stream,
         },
+        Packet::Control(packet) => Judgement::Accepted {
+            kind: PacketKind::Control,
+            stream: packet.prologue.stream,
+        },
+        Packet::Cancel(packet) => Judgement::Accepted {
+            kind: PacketKind::Cancel,
+            stream: packet.prologue.stream,
+        },
+        Packet::Ack(packet) => accepted_ack(packet),
     }
 }
 
-/// What is judged of an acknowledgement.
-pub(crate) fn accepted_ack(packet: &Ack) -> Judgement
+// What is judged of an acknowledgement.
+fn accepted_ack(packet: &Ack) -> Judgement
     ensures { result ≡ accepted_ack packet.now }
 {
     let (kind, stream) = match packet {
