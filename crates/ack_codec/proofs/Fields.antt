@@ -22,11 +22,6 @@ module _ (i : ℕ) (field : Field) (h : i < 12) (e : field ≡ get_or fields_in_
       ≡ bit_in mask field + sum_by (λ f. bit_in mask f) (drop (i + 1) fields_in_order)
   bits_next mask = ap (λ l. sum_by (λ f. bit_in mask f) l) next_field ∙ sum_by-cons (λ f. bit_in mask f) field (drop (i + 1) fields_in_order)
 
-  pub width_next : (mask : ℕ) → sum_by (λ f. bit_in mask f * width_of f) (drop i fields_in_order)
-      ≡ taken mask field + sum_by (λ f. bit_in mask f * width_of f) (drop (i + 1) fields_in_order)
-  width_next mask =
-      ap (λ l. sum_by (λ f. bit_in mask f * width_of f) l) next_field ∙ sum_by-cons (λ f. bit_in mask f * width_of f) field (drop (i + 1) fields_in_order)
-
   pub listed_next : (mask : ℕ) (words : List ℕ) → i < length words → listed_with mask (drop i fields_in_order) (drop i words)
       ≡ word_if (bit_in mask field) (get_or words i 0) ++ listed_with mask (drop (i + 1) fields_in_order) (drop (i + 1) words)
   listed_next mask words there =
@@ -49,12 +44,6 @@ module _ (i : ℕ) (field : Field) (h : i < 12) (e : field ≡ get_or fields_in_
       ∙ so_far
 
 -- behind the last field nothing is left
-pub bits_end : (mask i : ℕ) → i ≡ 12 → sum_by (λ f. bit_in mask f) (drop i fields_in_order) ≡ 0
-bits_end mask i e = ap (λ n. sum_by (λ f. bit_in mask f) (drop n fields_in_order)) e
-
-pub width_end : (mask i : ℕ) → i ≡ 12 → sum_by (λ f. bit_in mask f * width_of f) (drop i fields_in_order) ≡ 0
-width_end mask i e = ap (λ n. sum_by (λ f. bit_in mask f * width_of f) (drop n fields_in_order)) e
-
 pub listed_end : (mask i : ℕ) (words : List ℕ) → i ≡ 12 → listed_with mask (drop i fields_in_order) (drop i words) ≡ []
 listed_end mask i words e = ap (λ n. listed_with mask (drop n fields_in_order) (drop n words)) e
 
@@ -63,29 +52,6 @@ pub responses_whole : (i mask : ℕ) (words all rest : List ℕ) → length word
 responses_whole i mask words all rest size e so_far =
     sym (take_all i words (omega arith)) ∙ sym (append-nil (take i words))
     ∙ ap (λ l. take i words ++ l) (sym (ap (λ n. responses_in mask (drop n fields_in_order) rest) e)) ∙ so_far
-
--- all fields take 19 words
-bit_times : (b w : ℕ) → b < 2 → b * w ≤ w
-bit_times zero w h = omega arith
-bit_times (suc zero) w h = omega arith
-bit_times (suc (suc b)) w h = absurd (omega arith)
-
-width_most : (mask : ℕ) (fields : List Field) → sum_by (λ field. bit_in mask field * width_of field) fields ≤ sum_by width_of fields
-width_most mask [] = omega arith
-width_most mask (field ∷ fields) =
-    omega (
-      arith,
-      sum_by-cons width_of field fields,
-      sum_by-cons (λ f. bit_in mask f * width_of f) field fields,
-      width_most mask fields,
-      bit_times (bit_in mask field) (width_of field) (omega arith),
-    )
-
-all_widths : sum_by width_of fields_in_order ≡ 19
-all_widths = refl
-
-pub widest : (mask : ℕ) → width_of_mask mask ≤ 19
-widest mask = omega (arith, width_most mask fields_in_order, all_widths)
 
 -- at most a word for each field is listed
 listed_at_most : (mask : ℕ) (fields : List Field) (words : List ℕ) → length (listed_with mask fields words) ≤ length fields

@@ -2,7 +2,6 @@
 #![tactic(auto)]
 
 mod ack;
-mod front;
 mod listing;
 mod mask;
 mod reading;

@@ -4,9 +4,9 @@ ghost use Rattle.vrt_fields.specs.FieldSet.{bit_in, IsFieldMask, number_in_mask}
 ghost use Rattle.ack_codec.specs.Responses.{AreResponses, listed_words, word_if};
 ghost use Rattle.ack_codec.specs.Steps.{first_response};
 
-use crate::mask::{bit_under, field_at, number};
+use crate::mask::{bit_under, field_at};
 use crate::responses::Responses;
-use vrt_fields::Field;
+use vrt_fields::{Field, mask_number};
 use vrt_words::{put_words, read_words};
 
 /// The responses that the mask lists, in the words from `at` on: from the highest bit down.
@@ -18,7 +18,7 @@ pub(crate) fn read_responses(mask: u32, bytes: &[u8], at: usize) -> Responses
     ensures listed { listed_words result ≡ take (number_in_mask mask) (drop at (words_of bytes.now)) }
 {
     let mut words = [0; 12];
-    let listed = number(mask);
+    let listed = mask_number(mask);
     read_words(bytes, at, &mut words[..listed]);
     spread(mask, &words[..listed])
 }

@@ -1,12 +1,11 @@
 ghost use Rattle.std.specs.Prelude.{◌≡◌, ◌+◌, ◌≤◌, ◌<◌, ◌^◌, ◌≢◌, ℕ, Some, IfSome, IfNone, slice_index_or};
 ghost use Rattle.vrt_words.specs.Words.{words_of};
 ghost use Rattle.vrt_fields.specs.declared.field.Field.TheVariants.{ReferencePoint};
-ghost use Rattle.vrt_fields.specs.Field.{width_of, fields_in_order};
+ghost use Rattle.vrt_fields.specs.Field.{fields_in_order};
 ghost use Rattle.vrt_fields.specs.FieldSet.{bit_in, width_of_mask, number_in_mask};
-ghost use Rattle.vrt_fields.specs.Values.{taken};
 ghost use Rattle.ack_codec.specs.Steps.{IsMaskAt};
 
-use vrt_fields::{Field, is_field_mask};
+use vrt_fields::{Field, is_field_mask, mask_number, mask_width};
 use vrt_words::{bits_of, word_or_place};
 
 /// The field with this number among all, from the highest bit down.
@@ -38,42 +37,6 @@ pub(crate) fn bit_under(mask: u32, field: Field) -> usize
     bits_of(mask, field.bit(), 1) as usize
 }
 
-/// How many fields a mask lists.
-pub(crate) fn number(mask: u32) -> usize
-    ensures number { result ≡ number_in_mask mask }
-    ensures most { result ≤ 12 }
-{
-    let mut number = 0;
-    for index in 0..12 {
-        number += bit_under(mask, field_at(index));
-    }
-    number
-}
-
-// How many words the fields of a mask take.
-fn width(mask: u32) -> usize
-    ensures number { result ≡ width_of_mask mask }
-    ensures most { result ≤ 19 }
-{
-    let mut width = 0;
-    for index in 0..12 {
-        width += width_under(mask, field_at(index));
-    }
-    width
-}
-
-// How many words a field takes under a mask.
-fn width_under(mask: u32, field: Field) -> usize
-    ensures number { result ≡ taken mask field }
-    ensures most { result ≤ width_of field }
-{
-    if bit_under(mask, field) == 1 {
-        field.width()
-    } else {
-        0
-    }
-}
-
 /// The word at `at`, where it is a mask that lists `least` to `most` fields.
 pub(crate) fn listing_at(bytes: &[u8], at: usize, least: usize, most: usize) -> Option<u32>
     requires { at < 2 ^ 32 }
@@ -83,7 +46,7 @@ pub(crate) fn listing_at(bytes: &[u8], at: usize, least: usize, most: usize) -> 
         → least ≤ number_in_mask mask → ¬ (number_in_mask mask ≤ most)) }
 {
     let mask = mask_at(bytes, at)?;
-    let fields = number(mask);
+    let fields = mask_number(mask);
     if least <= fields && fields <= most {
         Some(mask)
     } else {
@@ -98,7 +61,7 @@ pub(crate) fn spread_at(bytes: &[u8], at: usize, words: usize) -> Option<u32>
     ensures none { IfNone result ((mask : ℕ) → IsMaskAt (words_of bytes.now) at mask → width_of_mask mask ≢ words) }
 {
     let mask = mask_at(bytes, at)?;
-    if width(mask) == words {
+    if mask_width(mask) == words {
         Some(mask)
     } else {
         None

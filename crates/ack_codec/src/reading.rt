@@ -8,7 +8,6 @@ ghost use Rattle.ack_codec.specs.Steps.{left_of, IsAckFront, IsBegun, IsBegunOne
 ghost use Rattle.ack_codec.specs.declared.ack.Ack.{Ack};
 
 use crate::ack::{Ack, AckState};
-use crate::front::front_size;
 use crate::mask::spread_at;
 use crate::reports::read_report;
 use cam_field::Role;
@@ -57,7 +56,7 @@ fn read_state(front: &CommandPrologue, bytes: &[u8]) -> Result<Ack, Place>
     ensures refused { IfErr result (λ place. IsCutAt (IsBegunOne width_of_mask (left_of front.now)) (command_words front.now)
         front.now.prologue.header.size bytes.now place.word) }
 {
-    match fields_at(bytes, front_size(front), front.prologue.header.size) {
+    match fields_at(bytes, front.words(), front.prologue.header.size) {
         Ok(fields) => Ok(Ack::S(AckState {
             prologue: front.prologue,
             cam: front.cam,

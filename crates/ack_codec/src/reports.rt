@@ -7,11 +7,11 @@ ghost use Rattle.ack_codec.specs.Responses.{AreResponses, listed_words};
 ghost use Rattle.ack_codec.specs.Steps.{told_of, left_of, IsAckFront, IsBegunOne, IsBegunTwo, IsBegunReport, IsCutAt, IsReadBehind, AreReadAt};
 
 use crate::ack::{Ack, AckReport};
-use crate::front::front_size;
 use crate::listing::read_responses;
-use crate::mask::{listing_at, number};
+use crate::mask::listing_at;
 use crate::responses::Responses;
 use command_prologue::{CommandPrologue, check_size};
+use vrt_fields::mask_number;
 use vrt_words::Place;
 
 /// The warnings and errors that are told behind this front.
@@ -23,7 +23,7 @@ pub(crate) fn read_report(front: &CommandPrologue, bytes: &[u8]) -> Result<Ack, 
     ensures refused { IfErr result (λ place. IsCutAt (IsBegunReport front.now.cam.warned front.now.cam.erred (left_of front.now))
         (command_words front.now) front.now.prologue.header.size bytes.now place.word) }
 {
-    let at = front_size(front);
+    let at = front.words();
     let cam = &front.cam;
     match responses_at(cam.warned, cam.erred, bytes, at, front.prologue.header.size) {
         Ok((warnings, errors)) => Ok(report_of(front, warnings, errors)),
@@ -119,7 +119,7 @@ fn both_lists(bytes: &[u8], at: usize, size: u16) -> Result<(Responses, Response
     let Some(first) = listing_at(bytes, at, listed.saturating_sub(12), listed) else {
         return Err(Place { word: at as u32 });
     };
-    let rest = listed - number(first);
+    let rest = listed - mask_number(first);
     let Some(second) = listing_at(bytes, at + 1, rest, rest) else {
         return Err(Place {
             word: at as u32 + 1,
@@ -127,7 +127,7 @@ fn both_lists(bytes: &[u8], at: usize, size: u16) -> Result<(Responses, Response
     };
     match check_size(bytes, size) {
         Ok(()) => {
-            let middle = at + 2 + number(first);
+            let middle = at + 2 + mask_number(first);
             Ok((
                 read_responses(first, bytes, at + 2),
                 read_responses(second, bytes, middle),

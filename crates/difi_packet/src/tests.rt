@@ -31,12 +31,43 @@ const ACK_X: [u32; 12] = [
     0x6C60000C, 1, 0x006A621E, 0, 0x6553F10A, 0, 0, 0x01090000, 1, 0x00A00000, 0x80000000,
     0x90000000,
 ];
+
 const ACK_NONE: [u32; 9] = [
     0x6D600009, 1, 0x006A621E, 0, 0x6553F10F, 0, 0, 0x00080400, 3,
 ];
+
 const ACK_S: [u32; 12] = [
     0x6C60000C, 1, 0x006A621E, 0, 0x6553F10A, 0, 0, 0x00040000, 7, 0x08000000, 0x00047868,
     0xC0000000,
+];
+
+// The other commands and answers of an exchange: in part, at a time, a query and a warning.
+const OTHERS: [[u32; 13]; 4] = [
+    [
+        0x6800000A, 1, 0x006A621E, 0, 0x09080000, 2, 0x00A00000, 0x600, 0, 0x00100000, 0, 0, 0,
+    ],
+    [
+        0x6860000D, 1, 0x006A621E, 0, 0x6553F114, 0, 0, 0x01081000, 3, 0x08800000, 0x00047868,
+        0xC0000000, 0x600,
+    ],
+    [
+        0x68000007, 1, 0x006A621E, 0, 0x00040000, 7, 0x08000000, 0, 0, 0, 0, 0, 0,
+    ],
+    [
+        0x68000008, 1, 0x006A621E, 0, 0x05080000, 8, 0x00800000, 0x601, 0, 0, 0, 0, 0,
+    ],
+];
+
+const ANSWERS: [[u32; 11]; 3] = [
+    [
+        0x6C60000B, 1, 0x006A621E, 0, 0x6553F10A, 0, 0, 0x09090C00, 2, 0x00200000, 0x90000000,
+    ],
+    [
+        0x6C60000B, 1, 0x006A621E, 0, 0x6553F114, 0, 0, 0x01091C00, 3, 0x00800000, 0x80000000,
+    ],
+    [
+        0x6C60000B, 1, 0x006A621E, 0, 0x6553F10A, 0, 0, 0x050A0400, 8, 0x00800000, 0x08000000,
+    ],
 ];
 
 // What is written of the packet that is read.
@@ -97,4 +128,16 @@ fn a_packet_is_refused_at_the_word_of_its_kind(rt: HostRuntime) {
     words[8] = 13;
     assert_eq!(rt; refused_at(profile, &words), Some(Place { word: 8 }));
     assert_eq!(rt; refused_at(profile, &VERSION), None);
+}
+
+#[test]
+fn an_exchange_is_read_and_written_again(rt: HostRuntime) {
+    let profile = Profile::of(0x6A_621E, 1).expect(&rt, "a profile");
+    assert!(rt; is_written_again(profile, &OTHERS[0][..10]));
+    assert!(rt; is_written_again(profile, &OTHERS[1]));
+    assert!(rt; is_written_again(profile, &OTHERS[2][..7]));
+    assert!(rt; is_written_again(profile, &OTHERS[3][..8]));
+    assert!(rt; is_written_again(profile, &ANSWERS[0]));
+    assert!(rt; is_written_again(profile, &ANSWERS[1]));
+    assert!(rt; is_written_again(profile, &ANSWERS[2]));
 }

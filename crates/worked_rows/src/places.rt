@@ -159,8 +159,8 @@ fn a_version_packet_names_the_three_fields(rt: HostRuntime) -> Result<(), Fail> 
 }
 
 #[test]
-fn a_command_is_of_no_kind_in_the_grammar(rt: HostRuntime) -> Result<(), Fail> {
-    let text = check_first(&rt, rt.alloc(), 0x6800_000A)?;
+fn a_header_of_no_kind_is_refused_at_word_0(rt: HostRuntime) -> Result<(), Fail> {
+    let text = check_first(&rt, rt.alloc(), 0x6A00_000A)?;
     assert_eq!(rt; text.as_slice(), refused(rt.alloc(), 0)?.as_bytes());
     Ok(())
 }

@@ -5,4 +5,4 @@ use Rattle.ack_codec.proofs.listing.read_responses.Goals as goal
 
 pub read_words-requires : goal.read_words-requires
 read_words-requires c =
-    omega (arith, length-words_of c.args.bytes.now, c.requires.there, c.number-listed.ensures.number, length-take {A = ℕ})
+    omega (arith, length-words_of c.args.bytes.now, c.requires.there, c.mask_number-listed.ensures.number, length-take {A = ℕ})
