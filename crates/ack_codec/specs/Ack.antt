@@ -12,6 +12,7 @@ use Rattle.ack_codec.specs.declared.ack.Ack.TheVariants.{V, X, S}
 use Rattle.ack_codec.specs.declared.ack.AckReport.{AckReport}
 use Rattle.ack_codec.specs.declared.ack.AckState.{AckState}
 
+-- what stands in front of the content, by the kind
 abbrev pub front_of_report : AckReport → CommandPrologue
 front_of_report report = record {
   prologue = report.prologue;
@@ -30,7 +31,6 @@ front_of_state state = record {
   controller = state.controller;
 }
 
--- what stands in front of the content
 abbrev pub front_of : Ack → CommandPrologue
 front_of (V report) = front_of_report report
 front_of (X report) = front_of_report report
@@ -74,6 +74,7 @@ pub record IsState (state : AckState) (words : List ℕ) : Type 0 where
   pub fields : IsFieldSet state.fields
   pub all : words ≡ mask_of state.fields ∷ words_of_set state.fields
 
+-- the words behind the identities, by the kind
 abbrev pub IsContent : Ack → List ℕ → Type 0
 IsContent (V report) words = IsReport report words
 IsContent (X report) words = IsReport report words
