@@ -1,14 +1,13 @@
 -- One more field of those in order, and of the words that stand beside them.
-use Rattle.std.proofs.Common.{◌≡◌, ℕ, zero, suc, ◌+◌, ◌*◌, ◌<◌, ◌≤◌, List, [], ◌∷◌, ◌++◌, length, take, drop, get_or, sum_by, refl, sym, ap, ◌∙◌, append_assoc, append-nil, length-append, arith}
+use Rattle.std.proofs.Common.{◌≡◌, ℕ, suc, ◌+◌, ◌<◌, ◌≤◌, List, [], ◌∷◌, ◌++◌, length, take, drop, get_or, sum_by, sym, ap, ◌∙◌, append_assoc, append-nil, length-append, arith}
 use Rattle.std.proofs.Math.ListN.{set}
 use Rattle.std.proofs.Math.Seq.{take-suc-set}
 use Rattle.std.proofs.lemmas.List.{drop_more, take_all}
 use Rattle.std.proofs.lemmas.List.Sums.{sum_by-cons}
 use Rattle.vrt_fields.specs.declared.field.Field.{Field}
 use Rattle.vrt_fields.specs.declared.field.Field.TheVariants.{ReferencePoint}
-use Rattle.vrt_fields.specs.Field.{width_of, fields_in_order}
-use Rattle.vrt_fields.specs.FieldSet.{bit_in, width_of_mask}
-use Rattle.vrt_fields.specs.Values.{taken}
+use Rattle.vrt_fields.specs.Field.{fields_in_order}
+use Rattle.vrt_fields.specs.FieldSet.{bit_in}
 use Rattle.ack_codec.specs.Responses.{word_if, listed_with}
 use Rattle.ack_codec.specs.ResponseLaws.{length-word_if}
 use Rattle.ack_codec.specs.Steps.{first_response, responses_in}

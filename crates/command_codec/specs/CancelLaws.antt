@@ -1,5 +1,5 @@
 -- Laws of cancellations: words are one at most, and are refused in the prologue, at CIF0 or at the end.
-use Rattle.std.proofs.Common.{◌≡◌, ℕ, zero, suc, ◌+◌, ◌*◌, ◌^◌, ◌<◌, ◌≤◌, List, [], ◌∷◌, ◌++◌, length, take, drop, Result, Ok, Err, IfOk, IfErr, refl, sym, ap, ◌∙◌, subst, length-append, length-drop, take-append-drop, arith}
+use Rattle.std.proofs.Common.{◌≡◌, ℕ, suc, ◌+◌, ◌*◌, ◌^◌, ◌<◌, List, [], ◌∷◌, ◌++◌, length, take, drop, Result, Ok, Err, IfOk, IfErr, sym, ap, ◌∙◌, subst, length-append, length-drop, take-append-drop, arith}
 use Rattle.std.proofs.lemmas.List.{length-take, take_at, drop_at, nil_from_length}
 use Rattle.vrt_words.specs.Words.{words_of, AreWords, AreBytes}
 use Rattle.vrt_words.specs.Begins.{IsDatagram, IsRefused}
@@ -15,7 +15,7 @@ use Rattle.command_prologue.specs.declared.prologue.CommandPrologue.{CommandProl
 use Rattle.vrt_words.specs.declared.place.Place.{Place}
 use Rattle.command_codec.specs.declared.cancel.Cancel.{Cancel}
 use Rattle.command_codec.specs.Cancel.{front_of, IsCancel}
-use Rattle.command_codec.specs.FirstWord.{HasFirst, AreByFirst}
+use Rattle.command_codec.specs.FirstWord.{AreByFirst}
 
 -- what the word behind the identities is
 abbrev pub IsNamed : CommandPrologue → ℕ → Type 0

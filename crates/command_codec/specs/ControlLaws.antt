@@ -1,11 +1,11 @@
 -- Laws of commands: words are one at most, and are refused in the prologue, at CIF0 or at the end.
-use Rattle.std.proofs.Common.{◌≡◌, ◌≢◌, ℕ, zero, suc, ◌+◌, ◌-◌, ◌*◌, ◌^◌, ◌<◌, ◌≤◌, ◌⊎◌, inl, inr, List, [], ◌∷◌, ◌++◌, length, take, drop, Option, Some, None, Result, Ok, Err, IfOk, IfErr, refl, sym, ap, ◌∙◌, subst, length-append, length-drop, take-append-drop, append_assoc, arith}
-use Rattle.std.proofs.lemmas.List.{length-take, length-take-le, take_at, drop_at, nil_from_length}
+use Rattle.std.proofs.Common.{◌≡◌, ℕ, zero, suc, ◌+◌, ◌-◌, ◌*◌, ◌^◌, ◌<◌, ◌≤◌, ◌⊎◌, inl, inr, List, [], ◌∷◌, ◌++◌, length, take, drop, Option, Some, None, Result, Ok, Err, IfOk, IfErr, refl, sym, ap, ◌∙◌, subst, length-append, length-drop, take-append-drop, append_assoc, arith}
+use Rattle.std.proofs.lemmas.List.{length-take, take_at, drop_at, nil_from_length}
 use Rattle.vrt_words.specs.Words.{words_of, AreWords, AreBytes}
 use Rattle.vrt_words.specs.Begins.{IsDatagram, IsRefused}
-use Rattle.vrt_words.specs.WordLaws.{length-words_of, words_of-words, one_spelling, AreWords-take, AreWords-drop}
+use Rattle.vrt_words.specs.WordLaws.{length-words_of, words_of-words, one_spelling, AreWords-take}
 use Rattle.vrt_header.specs.Profile.{PacketProfile}
-use Rattle.vrt_fields.specs.FieldSet.{FieldValues, IsFieldSet, mask_of, words_of_set, IsFieldMask, width_of_mask}
+use Rattle.vrt_fields.specs.FieldSet.{FieldValues, IsFieldMask, width_of_mask}
 use Rattle.vrt_fields.specs.FieldSetLaws.{one_set, width_is_of_fields, set_of_words}
 use Rattle.vrt_fields.specs.MaskLaws.{mask_of_width, no_width}
 use Rattle.cam_field.specs.declared.cam.Cam.{Cam}
@@ -18,7 +18,7 @@ use Rattle.command_prologue.specs.declared.prologue.CommandPrologue.{CommandProl
 use Rattle.vrt_words.specs.declared.place.Place.{Place}
 use Rattle.command_codec.specs.declared.control.Control.{Control}
 use Rattle.command_codec.specs.Control.{front_of, AreValues, words_of_values, IsContent, IsControl}
-use Rattle.command_codec.specs.FirstWord.{HasFirst, AreByFirst}
+use Rattle.command_codec.specs.FirstWord.{AreByFirst}
 use Rattle.command_codec.specs.Steps.{IsAsked}
 
 -- ---- words are one command

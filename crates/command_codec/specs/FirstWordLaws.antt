@@ -1,7 +1,7 @@
 -- Where packets are refused whose content is a word with a rule and then free words up to the size.
-use Rattle.std.proofs.Common.{◌≡◌, ℕ, ◌≢◌, zero, suc, ◌+◌, ◌-◌, ◌*◌, ◌^◌, ◌<◌, ◌≤◌, ◌⊎◌, inl, inr, List, [], ◌∷◌, ◌++◌, length, take, drop, get_or, refl, sym, ap, ◌∙◌, subst, length-append, length-drop, take-append-drop, add-zero, arith}
+use Rattle.std.proofs.Common.{◌≡◌, ℕ, ◌≢◌, suc, ◌+◌, ◌-◌, ◌*◌, ◌^◌, ◌<◌, ◌≤◌, ◌⊎◌, inl, inr, List, [], ◌∷◌, ◌++◌, length, take, drop, get_or, sym, ap, ◌∙◌, subst, length-append, length-drop, take-append-drop, arith}
 use Rattle.std.proofs.lemmas.Bool.{cases_lt}
-use Rattle.std.proofs.lemmas.List.{length-take-le, get_or-drop}
+use Rattle.std.proofs.lemmas.List.{length-take-le}
 use Rattle.std.proofs.Math.Seq.{drop-cons}
 use Rattle.vrt_words.specs.Words.{words_of, AreWords, AreBytes}
 use Rattle.vrt_words.specs.Begins.{IsDatagram, IsRefusedAt, IsRefused}
@@ -9,12 +9,11 @@ use Rattle.vrt_words.specs.WordLaws.{length-words_of}
 use Rattle.vrt_header.specs.Profile.{PacketProfile}
 use Rattle.cam_field.specs.declared.modes.Role.{Role}
 use Rattle.command_prologue.specs.CommandPrologue.{IsCommandPrologue, command_words}
-use Rattle.command_prologue.specs.CommandPrologueLaws.{one_before, command_length, content_left}
+use Rattle.command_prologue.specs.CommandPrologueLaws.{one_before, command_length}
 use Rattle.command_prologue.specs.Growing.{AreGrown, IsStoppedAt}
 use Rattle.command_prologue.specs.GrowingLaws.{refused_datagram, refused_datagram_in_front}
-use Rattle.command_prologue.specs.Sizes.{IsOtherSize}
 use Rattle.command_prologue.specs.declared.prologue.CommandPrologue.{CommandPrologue}
-use Rattle.command_codec.specs.FirstWord.{HasFirst, AreByFirst, IsCut, missing, wrong, other}
+use Rattle.command_codec.specs.FirstWord.{AreByFirst, IsCut, missing, wrong, other}
 
 module _ {V : Type 0} (profile : PacketProfile) (role : Role) (IsFirst : CommandPrologue → ℕ → Type 0) (IsWhole : V → List ℕ → Type 0)
     (by : AreByFirst profile role IsFirst IsWhole) where

@@ -1,6 +1,6 @@
 -- Laws of packets: the header tells the kind, and what is refused by its kind is refused by all.
-use Rattle.std.proofs.Common.{◌≡◌, ℕ, suc, ◌<◌, Bool, true, false, List, ◌++◌, length, take, get_or, refl, sym, ap, ◌∙◌, subst, arith}
-use Rattle.std.proofs.lemmas.List.{get_or-take, take-take, length-take}
+use Rattle.std.proofs.Common.{◌≡◌, ℕ, suc, ◌<◌, Bool, true, false, List, ◌++◌, length, take, get_or, sym, ap, subst, arith}
+use Rattle.std.proofs.lemmas.List.{get_or-take, length-take}
 use Rattle.vrt_words.specs.Words.{words_of}
 use Rattle.vrt_words.specs.Begins.{IsRefused}
 use Rattle.vrt_words.specs.BeginLaws.{begun_words}
@@ -12,7 +12,7 @@ use Rattle.vrt_header.specs.declared.header.Kind.{Kind}
 use Rattle.vrt_header.specs.declared.header.Kind.TheVariants as kinds
 use Rattle.vrt_header.specs.declared.prologue.Prologue.{Prologue}
 use Rattle.cam_field.specs.declared.modes.Role.{Role}
-use Rattle.command_prologue.specs.CommandPrologue.{kind_of, IsCommandPrologue}
+use Rattle.command_prologue.specs.CommandPrologue.{IsCommandPrologue}
 use Rattle.command_prologue.specs.CommandPrologueLaws.{header_kind}
 use Rattle.command_prologue.specs.declared.prologue.CommandPrologue.{CommandPrologue}
 use Rattle.difi_data.specs.Data.{DataPacket, IsData}

@@ -1,5 +1,5 @@
 -- What stands behind the prologue decides, and the words are one cancellation at most.
-use Rattle.std.proofs.Common.{◌≡◌, ◌*◌, ℕ, [], ◌∷◌, take, drop, Ok, Err, sym, ap, ◌∙◌, subst, arith}
+use Rattle.std.proofs.Common.{◌≡◌, ◌*◌, [], ◌∷◌, take, drop, sym, ap, ◌∙◌, subst, arith}
 use Rattle.std.proofs.lemmas.Result.{IfOk-weaker, IfErr-weaker}
 use Rattle.vrt_words.specs.Words.{words_of}
 use Rattle.vrt_words.specs.Begins.{IsDatagram, IsRefused}

@@ -1,5 +1,5 @@
 -- CIF0 is all that stands behind the prologue.
-use Rattle.std.proofs.Common.{◌≡◌, ◌+◌, suc, [], ◌∷◌, drop, get_or, ap, sym, ◌∙◌, subst, length-drop, arith}
+use Rattle.std.proofs.Common.{◌≡◌, suc, [], ◌∷◌, drop, get_or, ap, sym, ◌∙◌, subst, length-drop, arith}
 use Rattle.std.proofs.lemmas.List.{nil_from_length}
 use Rattle.std.proofs.Math.Seq.{drop-cons}
 use Rattle.vrt_words.specs.Words.{words_of}

@@ -1,7 +1,6 @@
 -- The prologue and CIF0 are the words of the cancellation.
-use Rattle.std.proofs.Common.{◌≡◌, ◌+◌, ◌*◌, ◌++◌, ◌∷◌, [], length, take, drop, sym, ap, ◌∙◌, subst, take-append-drop, arith}
+use Rattle.std.proofs.Common.{◌≡◌, ◌+◌, ◌*◌, ◌++◌, ◌∷◌, [], take, drop, sym, ap, ◌∙◌, subst, take-append-drop, arith}
 use Rattle.vrt_words.specs.Words.{words_of}
-use Rattle.vrt_words.specs.Begins.{IsDatagram}
 use Rattle.vrt_words.specs.WordLaws.{length-words_of, AreWords-take, AreBytes-take}
 use Rattle.cam_field.specs.declared.modes.Role.TheVariants as roles
 use Rattle.command_prologue.specs.CommandPrologue.{IsCommandPrologue, command_words}

@@ -1,5 +1,5 @@
 -- What stands behind the prologue decides, and the words are one command at most.
-use Rattle.std.proofs.Common.{◌≡◌, ◌*◌, ℕ, take, drop, Ok, Err, sym, ap, ◌∙◌, subst, arith}
+use Rattle.std.proofs.Common.{◌*◌, take, drop, sym, ap, ◌∙◌, subst, arith}
 use Rattle.std.proofs.lemmas.Result.{IfOk-weaker, IfErr-weaker}
 use Rattle.vrt_words.specs.Words.{words_of}
 use Rattle.vrt_words.specs.Begins.{IsDatagram, IsRefused}
@@ -8,7 +8,7 @@ use Rattle.command_prologue.specs.CommandPrologue.{IsCommandPrologue, command_wo
 use Rattle.command_prologue.specs.CommandPrologueLaws.{content_left}
 use Rattle.command_prologue.specs.declared.prologue.CommandPrologue.{CommandPrologue}
 use Rattle.command_codec.specs.declared.control.Control.{Control}
-use Rattle.command_codec.specs.Control.{front_of, IsContent, IsControl}
+use Rattle.command_codec.specs.Control.{IsContent, IsControl}
 use Rattle.command_codec.specs.ControlLaws.{by_first, right_control, one_answer}
 use Rattle.command_codec.specs.FirstWordLaws.{refused_by_cut, refused_in_prologue}
 use Rattle.command_codec.specs.Steps.{IsAsked}
