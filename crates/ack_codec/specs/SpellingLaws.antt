@@ -3,12 +3,12 @@ use Rattle.std.proofs.Common.{◌≡◌, ℕ, ◌+◌, ◌*◌, ◌≤◌, List,
 use Rattle.std.proofs.lemmas.List.{length-take, length-take-le, take_at, drop_at}
 use Rattle.vrt_words.specs.Words.{words_of, AreWords, AreBytes}
 use Rattle.vrt_words.specs.Begins.{IsDatagram}
-use Rattle.vrt_words.specs.WordLaws.{words_of-words, one_spelling, AreWords-take}
+use Rattle.vrt_words.specs.WordLaws.{words_of-words, one_spelling, AreWords-take, same_later}
 use Rattle.vrt_header.specs.Profile.{PacketProfile}
 use Rattle.cam_field.specs.declared.modes.Role.TheVariants as roles
 use Rattle.command_prologue.specs.CommandPrologue.{command_words}
 use Rattle.command_prologue.specs.CommandPrologueLaws.{command_length}
-use Rattle.command_prologue.specs.SpellingLaws.{one_words, same_later}
+use Rattle.command_prologue.specs.SpellingLaws.{one_words}
 use Rattle.ack_codec.specs.Ack.{front_of, IsContent, IsAck}
 use Rattle.ack_codec.specs.Steps.{content_words}
 use Rattle.ack_codec.specs.declared.ack.Ack.{Ack}

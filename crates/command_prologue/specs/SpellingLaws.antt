@@ -1,6 +1,6 @@
 -- The words that spell a prologue of the command family are one list.
-use Rattle.std.proofs.Common.{◌≡◌, ℕ, ◌+◌, ◌-◌, ◌*◌, ◌^◌, ◌<◌, ◌≤◌, List, [], ◌∷◌, ◌++◌, length, take, drop, get_or, sym, ap, ◌∙◌, take-append-drop, length-append, append_assoc, subst, arith}
-use Rattle.std.proofs.lemmas.List.{length-take-le, take_at, drop-drop}
+use Rattle.std.proofs.Common.{◌≡◌, ℕ, ◌+◌, ◌*◌, ◌^◌, ◌<◌, ◌≤◌, List, [], ◌∷◌, ◌++◌, length, take, drop, get_or, sym, ap, ◌∙◌, take-append-drop, length-append, append_assoc, subst, arith}
+use Rattle.std.proofs.lemmas.List.{length-take-le, take_at}
 use Rattle.vrt_words.specs.Words.{words_of, AreWords}
 use Rattle.vrt_words.specs.WordLaws.{words_of-take, AreWords-take, AreWords-drop}
 use Rattle.vrt_words.specs.Begins.{IsDatagram}
@@ -45,12 +45,6 @@ pub take_put : (m r : ℕ) (xs ys part rest : List ℕ) → m ≤ length ys → 
 take_put m r xs ys part rest there e same =
     ap (take r) (same ∙ sym (append_assoc (take m ys) part rest))
     ∙ take_at (take m ys ++ part) rest r (length-append (take m ys) part ∙ ap (λ n. n + length part) (length-take-le m ys there) ∙ sym e)
-
--- what is the same from one place on is the same from each later one on
-pub same_later : (i k : ℕ) (xs ys : List ℕ) → i ≤ k → drop i xs ≡ drop i ys → drop k xs ≡ drop k ys
-same_later i k xs ys h e =
-    let more : k ≡ i + (k - i) = omega arith in
-    ap (λ n. drop n xs) more ∙ sym (drop-drop (k - i) i xs) ∙ ap (drop (k - i)) e ∙ drop-drop (k - i) i ys ∙ ap (λ n. drop n ys) (sym more)
 
 -- the parts in a row
 pub row_of : (front : CommandPrologue) (start : List ℕ) (word : ℕ)

@@ -1,8 +1,7 @@
 -- The words that an encoder writes are those of the packet.
-use Rattle.std.proofs.Common.{◌≡◌, ℕ, ◌+◌, ◌-◌, ◌*◌, ◌^◌, ◌<◌, ◌≤◌, ◌==◌, Bool, true, false, List, [], ◌∷◌, ◌++◌, length, take, drop, set, get_or, sym, ap, ◌∙◌, subst, append_assoc, length-append, length-drop, arith}
-use Rattle.std.proofs.lemmas.Bool.Decides.{nat_tests}
-use Rattle.std.proofs.lemmas.List.{take_at, drop-drop, take_more_set, drop_more, take-append-drop, length-take-le}
-use Rattle.vrt_words.specs.Words.{words_of, bits, AreWords, AreBytes}
+use Rattle.std.proofs.Common.{◌≡◌, ℕ, ◌+◌, ◌*◌, ◌<◌, ◌≤◌, Bool, true, false, List, [], ◌∷◌, ◌++◌, length, take, drop, set, get_or, sym, ap, ◌∙◌, subst, append_assoc, length-append, length-drop, arith}
+use Rattle.std.proofs.lemmas.List.{take_at, take_more_set, drop_more, take-append-drop, length-take-le}
+use Rattle.vrt_words.specs.Words.{words_of, AreWords, AreBytes}
 use Rattle.vrt_words.specs.Begins.{IsDatagram}
 use Rattle.vrt_words.specs.WordLaws.{AreWords-take, length-words_of, words_of-take, AreBytes-take, one_spelling}
 use Rattle.vrt_header.specs.Profile.{PacketProfile}
@@ -10,7 +9,7 @@ use Rattle.vrt_header.specs.Header.{prologue_words}
 use Rattle.vrt_header.specs.Prologue.{IsPrologue}
 use Rattle.difi_context.specs.ContextLaws.{context_timed}
 use Rattle.difi_context.specs.SpellingLaws.{cif0_word}
-use Rattle.difi_context.specs.Context.{IsContext, cif0_of, fields_bits}
+use Rattle.difi_context.specs.Context.{IsContext, cif0_of}
 use Rattle.difi_context.specs.declared.context.ContextRec.{ContextRec}
 
 -- the words in front are those of the packet
@@ -51,13 +50,6 @@ pub same_in_front : (profile : PacketProfile) (rec : ContextRec) (bytes other : 
 same_in_front profile rec bytes other there p q d e =
     let mine = datagram_in_front profile rec bytes (words_of other) there d.packet e in
     one_spelling (take 108 bytes) other (AreBytes-take 108 bytes p) q mine.whole d.whole (words_of-take 27 bytes ∙ e)
-
--- what is the same from a place on is the same from a later place on
-pub same_behind : (m n : ℕ) (xs ys : List ℕ) → m ≤ n → drop m xs ≡ drop m ys → drop n xs ≡ drop n ys
-same_behind m n xs ys h e =
-    let k = n - m in
-    let more : m + k ≡ n = omega arith in
-    subst (λ i. drop i xs ≡ drop i ys) more (sym (drop-drop k m xs) ∙ ap (drop k) e ∙ drop-drop k m ys)
 
 pub most_words : (timed : Bool) → prologue_words timed ≤ 7
 most_words true = omega arith

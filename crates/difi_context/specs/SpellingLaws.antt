@@ -1,5 +1,5 @@
 -- Laws of spelling: a context packet is spelled by one list of words, and of bytes.
-use Rattle.std.proofs.Common.{◌≡◌, ◌<◌, ◌≤◌, ◌^◌, ◌==◌, ℕ, Bool, true, false, List, ◌∷◌, ◌++◌, take, drop, get_or, sym, ap, ◌∙◌, take-append-drop, arith}
+use Rattle.std.proofs.Common.{◌≡◌, ◌<◌, ◌^◌, ◌==◌, ℕ, Bool, true, false, List, ◌∷◌, ◌++◌, take, get_or, sym, ap, ◌∙◌, take-append-drop, arith}
 use Rattle.std.proofs.lemmas.Bool.Decides.{nat_tests}
 use Rattle.std.proofs.lemmas.List.{drop_more}
 use Rattle.vrt_words.specs.Words.{words_of, bits, AreWords, AreBytes}

@@ -4,7 +4,7 @@ use Rattle.std.proofs.lemmas.List.{take_at, drop_at, length-take-le}
 use Rattle.std.proofs.lemmas.Slice.{take-put_mid, drop-put_mid}
 use borrow.Rule.Slice.PartMut.{put_mid}
 use Rattle.vrt_words.specs.Words.{words_of}
-use Rattle.vrt_words.specs.WordLaws.{words_of-append}
+use Rattle.vrt_words.specs.WordLaws.{words_of-append, same_later}
 use Rattle.vrt_time.specs.Time.{TimeStamp, stamp_of}
 use Rattle.sample_binder.specs.declared.run.Run.{Run}
 use Rattle.sample_binder.specs.declared.run.Run.TheVariants.{Bound, Uncertain, Raw}
@@ -14,7 +14,6 @@ use Rattle.release_form.specs.Layout.{IsLaidOut, IsLateStampAt, IsOfStream, IsPo
 use Rattle.release_form.specs.Sizes.{AreWholeWords, GoesWith, HasLength, part_size}
 use Rattle.release_form.specs.Release.{IsRecordOf, IsPartOf, as_read, read_run}
 use Rattle.release_form.specs.Front.{high_word, low_word, late_words, count_words, front_words, IsTyped, IsTypedRun, IsStampTyped}
-use Rattle.difi_context.proofs.EncodingLemmas.{same_behind}
 use Rattle.release_form.specs.declared.shown.Shown.{Shown}
 use Rattle.release_form.specs.declared.shown.Shown.TheVariants.{Run as ARun, Ack, Refused, Version, End}
 
@@ -202,4 +201,4 @@ record_written shown payload part into front size body f s b eight room words ty
 pub behind_written : (into old part : List ℕ) (front size : ℕ) → front ≤ size → front ≤ length into → length part ≡ size - front → drop front into ≡ drop front old
     → drop size (put_mid front (size - front) into part) ≡ drop size old
 behind_written into old part front size h room p e =
-    drop-put_mid front (size - front) into part size (omega arith) room p ∙ same_behind front size into old h e
+    drop-put_mid front (size - front) into part size (omega arith) room p ∙ same_later front size into old h e

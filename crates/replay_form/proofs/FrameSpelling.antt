@@ -1,4 +1,5 @@
 -- The bytes of a frame are one list, which is a frame.
+use Rattle.vrt_words.specs.WordLaws.{same_later}
 use borrow.Rule.Slice.PartMut.{put_mid}
 use Rattle.std.proofs.Common.{◌≡◌, ℕ, zero, suc, ◌+◌, ◌-◌, ◌<◌, ◌≤◌, ◌^◌, List, ◌++◌, length, take, drop, refl, sym, ap, ◌∙◌, append_assoc, length-append, take-append-drop, lit<, arith}
 use Rattle.std.proofs.lemmas.List.{take_at, drop_at, drop-drop, length-take-le, length-drop}
@@ -10,7 +11,7 @@ use Rattle.replay_form.specs.Numbers.{number_at}
 use Rattle.replay_form.specs.NumberLaws.{number_at-take}
 use Rattle.replay_form.specs.FrameFields.{Frame, IsFrame, AreFrameRight, frame_in}
 use Rattle.replay_form.specs.FrameSpelling.{IsFrameHead, frame_bytes}
-use Rattle.replay_form.proofs.Putting.{number_here, number_next, number_fits, drop_further}
+use Rattle.replay_form.proofs.Putting.{number_here, number_next, number_fits}
 
 frame_of : TimeStamp → ℕ → List ℕ → Frame
 frame_of stamp port datagram = record { stamp = stamp; port = port; datagram = datagram }
@@ -130,4 +131,4 @@ behind_frame n mid self old count room same =
     let front : length (take 20 mid ++ self) ≡ 20 + n = omega (arith, length-append (take 20 mid) self, length-take-le 20 mid (omega arith)) in
     let e : 20 + n - 20 ≡ n = omega arith in
     ap (drop (20 + n)) (sym (append_assoc (take 20 mid) self rest)) ∙ drop_at (take 20 mid ++ self) rest (20 + n) front
-    ∙ ap (λ k. drop k (drop 20 mid)) e ∙ drop-drop n 20 mid ∙ drop_further 20 (20 + n) mid old (omega arith) same
+    ∙ ap (λ k. drop k (drop 20 mid)) e ∙ drop-drop n 20 mid ∙ same_later 20 (20 + n) mid old (omega arith) same

@@ -1,4 +1,5 @@
 -- A number that is written at its offset.
+use Rattle.vrt_words.specs.WordLaws.{same_later}
 use borrow.Rule.Slice.PartMut.{put_mid}
 use Rattle.std.proofs.Common.{◌≡◌, ℕ, zero, suc, ◌+◌, ◌-◌, ◌*◌, ◌/◌, ◌<◌, ◌≤◌, ◌^◌, inl, inr, List, [], ◌∷◌, ◌++◌, length, take, drop, sym, ap, ◌∙◌, append_assoc, append-nil, length-append, take-add, arith}
 use Rattle.std.proofs.Math.Nat.{mod-lt, mul-le-mul_right, add-mul, mod-eq_of_lt}
@@ -100,14 +101,9 @@ stays_at : (w offset n : ℕ) (old new : List ℕ) → offset + w ≤ length old
 stays_at w offset n old new h is =
     ap (drop (offset + w)) is ∙ drop_at (take offset old ++ big_bytes w n) (drop (offset + w) old) (offset + w) (front_size w offset n old h)
 
-pub drop_further : (k n : ℕ) (xs ys : List ℕ) → k ≤ n → drop k xs ≡ drop k ys → drop n xs ≡ drop n ys
-drop_further k n xs ys h e =
-    let split : k + (n - k) ≡ n = omega arith in
-    ap (λ m. drop m xs) (sym split) ∙ sym (drop-drop (n - k) k xs) ∙ ap (drop (n - k)) e ∙ drop-drop (n - k) k ys ∙ ap (λ m. drop m ys) split
-
 pub stays : (w offset n : ℕ) (old new : List ℕ) → offset + w ≤ length old → new ≡ (take offset old ++ big_bytes w n) ++ drop (offset + w) old
     → (m : ℕ) → offset + w ≤ m → drop m new ≡ drop m old
-stays w offset n old new h is m k = drop_further (offset + w) m new old k (stays_at w offset n old new h is)
+stays w offset n old new h is m k = same_later (offset + w) m new old k (stays_at w offset n old new h is)
 
 -- a number that stands at the front, and one behind it
 pub number_here : (w n : ℕ) (back : List ℕ) → n < 256 ^ w → number_at 0 w (big_bytes w n ++ back) ≡ n

@@ -1,6 +1,6 @@
 -- Laws of the words of a datagram.
-use Rattle.std.proofs.Common.{◌≡◌, ◌<◌, ◌^◌, ◌/◌, ◌%◌, ℕ, zero, suc, ◌+◌, ◌*◌, ◌<◌, ◌≤◌, List, [], ◌∷◌, ◌++◌, length, take, drop, refl, sym, ap, ◌∙◌, true, nat_lt, arith}
-use Rattle.std.proofs.lemmas.List.{nil_from_length}
+use Rattle.std.proofs.Common.{◌≡◌, ◌<◌, ◌^◌, ◌/◌, ◌%◌, ℕ, zero, suc, ◌+◌, ◌-◌, ◌*◌, ◌<◌, ◌≤◌, List, [], ◌∷◌, ◌++◌, length, take, drop, refl, sym, ap, ◌∙◌, true, nat_lt, arith}
+use Rattle.std.proofs.lemmas.List.{nil_from_length, drop-drop}
 use Rattle.std.specs.List.{flat_map, list_all}
 use Rattle.std.proofs.lemmas.Bool.{ltb-true, and_parts}
 use Rattle.byteorder.specs.Endian.{big_bytes}
@@ -113,3 +113,9 @@ AreBytes-take zero xs p i = omega arith
 AreBytes-take (suc n) [] p i = omega arith
 AreBytes-take (suc n) (x ∷ xs) p zero = p 0
 AreBytes-take (suc n) (x ∷ xs) p (suc i) = AreBytes-take n xs (λ k. p (suc k)) i
+
+-- what is the same from one place on is the same from each later one on
+pub same_later : (i k : ℕ) (xs ys : List ℕ) → i ≤ k → drop i xs ≡ drop i ys → drop k xs ≡ drop k ys
+same_later i k xs ys h e =
+    let more : k ≡ i + (k - i) = omega arith in
+    ap (λ n. drop n xs) more ∙ sym (drop-drop (k - i) i xs) ∙ ap (drop (k - i)) e ∙ drop-drop (k - i) i ys ∙ ap (λ n. drop n ys) (sym more)

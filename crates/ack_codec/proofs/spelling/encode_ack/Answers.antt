@@ -2,10 +2,10 @@
 use Rattle.std.proofs.Common.{◌≡◌, ◌≤◌, ◌*◌, ◌++◌, length, take, drop, sym, ap, ◌∙◌, subst, arith}
 use Rattle.std.proofs.lemmas.List.{length-take-le}
 use Rattle.vrt_words.specs.Words.{words_of}
-use Rattle.vrt_words.specs.WordLaws.{length-words_of, words_of-take, AreWords-take, AreBytes-take}
+use Rattle.vrt_words.specs.WordLaws.{length-words_of, words_of-take, AreWords-take, AreBytes-take, same_later}
 use Rattle.cam_field.specs.declared.modes.Role.TheVariants as roles
 use Rattle.command_prologue.specs.CommandPrologue.{IsCommandPrologue, command_words}
-use Rattle.command_prologue.specs.SpellingLaws.{take_put, same_later}
+use Rattle.command_prologue.specs.SpellingLaws.{take_put}
 use Rattle.command_prologue.specs.declared.prologue.CommandPrologue.{CommandPrologue}
 use Rattle.ack_codec.specs.Ack.{front_of}
 use Rattle.ack_codec.specs.Steps.{content_words}

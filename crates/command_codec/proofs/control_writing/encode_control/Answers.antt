@@ -1,10 +1,10 @@
 -- The prologue, CIF0 and the values are the words of the command.
 use Rattle.std.proofs.Common.{◌≡◌, ◌+◌, ◌*◌, ◌++◌, ◌∷◌, [], take, drop, sym, ap, ◌∙◌, subst, arith}
 use Rattle.vrt_words.specs.Words.{words_of}
-use Rattle.vrt_words.specs.WordLaws.{length-words_of, AreWords-take, AreBytes-take}
+use Rattle.vrt_words.specs.WordLaws.{length-words_of, AreWords-take, AreBytes-take, same_later}
 use Rattle.cam_field.specs.declared.modes.Role.TheVariants as roles
 use Rattle.command_prologue.specs.CommandPrologue.{IsCommandPrologue, command_words}
-use Rattle.command_prologue.specs.SpellingLaws.{take_put, same_later, datagram_in_front}
+use Rattle.command_prologue.specs.SpellingLaws.{take_put, datagram_in_front}
 use Rattle.command_prologue.specs.declared.prologue.CommandPrologue.{CommandPrologue}
 use Rattle.command_codec.specs.Control.{front_of, words_of_values, IsControl}
 use Rattle.command_codec.specs.ControlLaws.{control_size, row_words, one_datagram}

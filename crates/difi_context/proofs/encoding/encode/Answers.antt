@@ -1,8 +1,8 @@
 -- The words written are those of the packet, and the bytes behind them stay.
 use Rattle.std.proofs.Common.{◌+◌, ◌*◌, ◌≤◌, ◌∙◌, take, length, arith}
 use Rattle.vrt_words.specs.Words.{words_of}
-use Rattle.vrt_words.specs.WordLaws.{AreWords-take, words_of-words}
-use Rattle.difi_context.proofs.EncodingLemmas.{encoded, datagram_in_front, same_in_front, same_behind, most_words, count_fields}
+use Rattle.vrt_words.specs.WordLaws.{AreWords-take, words_of-words, same_later}
+use Rattle.difi_context.proofs.EncodingLemmas.{encoded, datagram_in_front, same_in_front, most_words, count_fields}
 use Rattle.difi_context.proofs.encoding.encode.Goals as goal
 
 pub write_prologue-requires-clause-spelled : goal.write_prologue-requires-clause-spelled
@@ -36,6 +36,6 @@ returns-clause-behind c =
     let rec = c.args.rec.now in
     let fields = count_fields c.args.profile rec c.requires.allowed.words c.requires.allowed.packet in
     let words = most_words rec.prologue.header.timed in
-    same_behind (4 * (8 + length rec.fields)) 108 c.put_words.new.bytes c.put_word.new.bytes (omega arith) c.put_words.ensures.behind
-    ∙ same_behind 32 108 c.put_word.new.bytes c.write_prologue.new.into (omega arith) c.put_word.ensures.behind
-    ∙ same_behind (4 * c.write_prologue.result) 108 c.write_prologue.new.into c.args.into.now (omega (arith, c.write_prologue.ensures.length)) c.write_prologue.ensures.behind
+    same_later (4 * (8 + length rec.fields)) 108 c.put_words.new.bytes c.put_word.new.bytes (omega arith) c.put_words.ensures.behind
+    ∙ same_later 32 108 c.put_word.new.bytes c.write_prologue.new.into (omega arith) c.put_word.ensures.behind
+    ∙ same_later (4 * c.write_prologue.result) 108 c.write_prologue.new.into c.args.into.now (omega (arith, c.write_prologue.ensures.length)) c.write_prologue.ensures.behind

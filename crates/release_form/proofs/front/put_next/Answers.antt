@@ -1,5 +1,5 @@
 use Rattle.std.proofs.Common.{◌+◌, ◌*◌, length}
-use Rattle.difi_context.proofs.EncodingLemmas.{same_behind}
+use Rattle.vrt_words.specs.WordLaws.{same_later}
 use Rattle.release_form.proofs.Written.{next_words}
 use Rattle.release_form.proofs.front.put_next.Goals as goal
 
@@ -7,4 +7,4 @@ pub returns-clause-words : goal.returns-clause-words
 returns-clause-words c = next_words c.args.position c.args.words.now _ c.args.into.now c.put_words.new.bytes c.requires c.put_words.ensures.words
 
 pub returns-clause-behind : goal.returns-clause-behind
-returns-clause-behind c = λ n h. same_behind (4 * (c.args.position + length c.args.words.now)) n c.put_words.new.bytes c.args.into.now h c.put_words.ensures.behind
+returns-clause-behind c = λ n h. same_later (4 * (c.args.position + length c.args.words.now)) n c.put_words.new.bytes c.args.into.now h c.put_words.ensures.behind
