@@ -77,8 +77,8 @@ pub fn accepted(packet: &Packet<'_>) -> Judgement
     }
 }
 
-// What is judged of an acknowledgement.
-fn accepted_ack(packet: &Ack) -> Judgement
+/// What is judged of an acknowledgement.
+pub(crate) fn accepted_ack(packet: &Ack) -> Judgement
     ensures { result ≡ accepted_ack packet.now }
 {
     let (kind, stream) = match packet {
