@@ -13,20 +13,20 @@ use vrt_words::{PacketBuf, put_word};
 #[derive(Clone, Copy)]
 pub(crate) struct Time(pub(crate) u8);
 
-/// A second before 1,700,000,000 s, and so many seconds after it.
+/// A second before 1,700,000,000 s, that time, and so many seconds after it.
 pub(crate) const BEFORE: Time = Time(0);
 
-pub(crate) const T0: Time = Time(2);
+pub(crate) const START: Time = Time(2);
 
-pub(crate) const T0_5: Time = Time(3);
+pub(crate) const HALF_PAST: Time = Time(3);
 
-pub(crate) const T1: Time = Time(4);
+pub(crate) const ONE_SECOND: Time = Time(4);
 
-pub(crate) const T1_5: Time = Time(5);
+pub(crate) const ONE_AND_A_HALF: Time = Time(5);
 
-pub(crate) const T2: Time = Time(6);
+pub(crate) const TWO_SECONDS: Time = Time(6);
 
-pub(crate) const T3: Time = Time(8);
+pub(crate) const THREE_SECONDS: Time = Time(8);
 
 /// CIF0 with the twelve fields, with the change bit and without it.
 pub(crate) const CHANGED: u32 = 0xFBB9_8000;

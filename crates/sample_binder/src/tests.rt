@@ -137,12 +137,12 @@ const LONGEST: Payload = Payload {
 #[test]
 fn a_packet_leaves_at_the_second_context(rt: HostRuntime) -> Result<(), Wrong> {
     let steps = [
-        Context(T0, 0, CHANGED, PLAIN),
-        Data(T0, 0, TWO),
+        Context(START, 0, CHANGED, PLAIN),
+        Data(START, 0, TWO),
         Nothing,
-        Context(T1, 1, CHANGED, PLAIN),
+        Context(ONE_SECOND, 1, CHANGED, PLAIN),
         Packet(0),
-        Bound(T0, 0, 2, T0, PLAIN, 16),
+        Bound(START, 0, 2, START, PLAIN, 16),
         Nothing,
     ];
     play(rt.alloc(), LIMITS, &steps)
@@ -151,10 +151,10 @@ fn a_packet_leaves_at_the_second_context(rt: HostRuntime) -> Result<(), Wrong> {
 // Contexts at 0 and 1 s and this one, and then a packet at 1.5 s, which leaves with this run.
 fn across_a_loss(alloc: Global, third: Step, run: Step) -> Result<(), Wrong> {
     let steps = [
-        Context(T0, 0, CHANGED, PLAIN),
-        Context(T1, 1, CHANGED, PLAIN),
+        Context(START, 0, CHANGED, PLAIN),
+        Context(ONE_SECOND, 1, CHANGED, PLAIN),
         third,
-        Data(T1_5, 0, ONE),
+        Data(ONE_AND_A_HALF, 0, ONE),
         Packet(0),
         run,
         Nothing,
@@ -164,26 +164,30 @@ fn across_a_loss(alloc: Global, third: Step, run: Step) -> Result<(), Wrong> {
 
 #[test]
 fn a_lost_context_is_told(rt: HostRuntime) -> Result<(), Wrong> {
-    let run = Raw(Reason::ContextLost(1), T1_5, 0);
-    across_a_loss(rt.alloc(), Context(T3, 3, CHANGED, PLAIN), run)
+    let run = Raw(Reason::ContextLost(1), ONE_AND_A_HALF, 0);
+    across_a_loss(rt.alloc(), Context(THREE_SECONDS, 3, CHANGED, PLAIN), run)
 }
 
 #[test]
 fn a_loss_that_changed_nothing_is_healed(rt: HostRuntime) -> Result<(), Wrong> {
-    let run = Bound(T1_5, 0, 1, T1_5, PLAIN, 16);
-    across_a_loss(rt.alloc(), Context(T3, 3, UNCHANGED, PLAIN), run)
+    let run = Bound(ONE_AND_A_HALF, 0, 1, ONE_AND_A_HALF, PLAIN, 16);
+    across_a_loss(rt.alloc(), Context(THREE_SECONDS, 3, UNCHANGED, PLAIN), run)
 }
 
 #[test]
 fn a_loss_before_other_fields_is_not_healed(rt: HostRuntime) -> Result<(), Wrong> {
-    let run = Raw(Reason::ContextLost(1), T1_5, 0);
-    across_a_loss(rt.alloc(), Context(T3, 3, UNCHANGED, OTHER_GAIN), run)
+    let run = Raw(Reason::ContextLost(1), ONE_AND_A_HALF, 0);
+    across_a_loss(
+        rt.alloc(),
+        Context(THREE_SECONDS, 3, UNCHANGED, OTHER_GAIN),
+        run,
+    )
 }
 
 #[test]
 fn two_lost_contexts_are_not_healed(rt: HostRuntime) -> Result<(), Wrong> {
-    let run = Raw(Reason::ContextLost(2), T1_5, 0);
-    across_a_loss(rt.alloc(), Context(T3, 4, UNCHANGED, PLAIN), run)
+    let run = Raw(Reason::ContextLost(2), ONE_AND_A_HALF, 0);
+    across_a_loss(rt.alloc(), Context(THREE_SECONDS, 4, UNCHANGED, PLAIN), run)
 }
 
 // Contexts at 0 s, this one, and at 2 s, and then four samples from 0 s on, at 2 Hz, which leave with these runs.
@@ -194,10 +198,10 @@ fn across_a_context(
     second_run: Step,
 ) -> Result<(), Wrong> {
     let steps = [
-        Context(T0, 0, CHANGED, SLOW),
+        Context(START, 0, CHANGED, SLOW),
         second,
-        Context(T2, 2, CHANGED, SLOW),
-        Data(T0, 0, FOUR),
+        Context(TWO_SECONDS, 2, CHANGED, SLOW),
+        Data(START, 0, FOUR),
         Packet(0),
         first_run,
         second_run,
@@ -208,40 +212,40 @@ fn across_a_context(
 
 #[test]
 fn samples_on_both_sides_of_a_context_are_two_runs(rt: HostRuntime) -> Result<(), Wrong> {
-    let second = Context(T1, 1, CHANGED, SLOW_OTHER_GAIN);
-    let first_run = Bound(T0, 0, 2, T0, SLOW, 16);
-    let second_run = Bound(T0, 2, 2, T1, SLOW_OTHER_GAIN, 16);
+    let second = Context(ONE_SECOND, 1, CHANGED, SLOW_OTHER_GAIN);
+    let first_run = Bound(START, 0, 2, START, SLOW, 16);
+    let second_run = Bound(START, 2, 2, ONE_SECOND, SLOW_OTHER_GAIN, 16);
     across_a_context(rt.alloc(), second, first_run, second_run)
 }
 
 #[test]
 fn a_context_at_the_last_sample_has_that_sample(rt: HostRuntime) -> Result<(), Wrong> {
-    let second = Context(T1_5, 1, CHANGED, SLOW_OTHER_GAIN);
-    let first_run = Bound(T0, 0, 3, T0, SLOW, 16);
-    let second_run = Bound(T0, 3, 1, T1_5, SLOW_OTHER_GAIN, 16);
+    let second = Context(ONE_AND_A_HALF, 1, CHANGED, SLOW_OTHER_GAIN);
+    let first_run = Bound(START, 0, 3, START, SLOW, 16);
+    let second_run = Bound(START, 3, 1, ONE_AND_A_HALF, SLOW_OTHER_GAIN, 16);
     across_a_context(rt.alloc(), second, first_run, second_run)
 }
 
 #[test]
 fn samples_at_another_rate_are_uncertain(rt: HostRuntime) -> Result<(), Wrong> {
-    let second = Context(T1, 1, CHANGED, FASTER);
-    let first_run = Bound(T0, 0, 2, T0, SLOW, 16);
-    let second_run = Uncertain(Reason::FormatChanged, T0, 2, 2, T1, 16);
+    let second = Context(ONE_SECOND, 1, CHANGED, FASTER);
+    let first_run = Bound(START, 0, 2, START, SLOW, 16);
+    let second_run = Uncertain(Reason::FormatChanged, START, 2, 2, ONE_SECOND, 16);
     across_a_context(rt.alloc(), second, first_run, second_run)
 }
 
 #[test]
 fn the_longest_packet_is_cut_at_each_context(rt: HostRuntime) -> Result<(), Wrong> {
     let steps = [
-        Context(T0, 0, CHANGED, LONG),
-        Context(T0_5, 1, CHANGED, LONG_OTHER_GAIN),
-        Context(T1, 2, CHANGED, LONG),
-        Context(T3, 3, CHANGED, LONG),
-        Data(T0, 0, LONGEST),
+        Context(START, 0, CHANGED, LONG),
+        Context(HALF_PAST, 1, CHANGED, LONG_OTHER_GAIN),
+        Context(ONE_SECOND, 2, CHANGED, LONG),
+        Context(THREE_SECONDS, 3, CHANGED, LONG),
+        Data(START, 0, LONGEST),
         Packet(0),
-        Bound(T0, 0, 16_369, T0, LONG, 4),
-        Bound(T0, 16_369, 16_369, T0_5, LONG_OTHER_GAIN, 4),
-        Bound(T0, 32_738, 32_738, T1, LONG, 4),
+        Bound(START, 0, 16_369, START, LONG, 4),
+        Bound(START, 16_369, 16_369, HALF_PAST, LONG_OTHER_GAIN, 4),
+        Bound(START, 32_738, 32_738, ONE_SECOND, LONG, 4),
         Nothing,
     ];
     play(rt.alloc(), LIMITS, &steps)
@@ -250,19 +254,19 @@ fn the_longest_packet_is_cut_at_each_context(rt: HostRuntime) -> Result<(), Wron
 #[test]
 fn the_first_leaves_where_too_many_wait(rt: HostRuntime) -> Result<(), Wrong> {
     let steps = [
-        Context(T0, 0, CHANGED, PLAIN),
-        Data(T0, 0, ONE),
-        Data(T1, 1, ONE),
+        Context(START, 0, CHANGED, PLAIN),
+        Data(START, 0, ONE),
+        Data(ONE_SECOND, 1, ONE),
         Nothing,
-        Data(T2, 2, ONE),
+        Data(TWO_SECONDS, 2, ONE),
         Packet(0),
-        Raw(Reason::PendingFull, T0, 0),
+        Raw(Reason::PendingFull, START, 0),
         Nothing,
         End,
         Packet(0),
-        Raw(Reason::Ended, T1, 0),
+        Raw(Reason::Ended, ONE_SECOND, 0),
         Packet(0),
-        Raw(Reason::Ended, T2, 0),
+        Raw(Reason::Ended, TWO_SECONDS, 0),
         Nothing,
     ];
     play(rt.alloc(), TWO_WAIT, &steps)
@@ -271,14 +275,14 @@ fn the_first_leaves_where_too_many_wait(rt: HostRuntime) -> Result<(), Wrong> {
 #[test]
 fn an_open_tail_is_uncertain_where_too_many_wait(rt: HostRuntime) -> Result<(), Wrong> {
     let steps = [
-        Context(T0, 0, CHANGED, SLOW),
-        Context(T1, 1, CHANGED, SLOW),
-        Data(T0, 0, FOUR),
+        Context(START, 0, CHANGED, SLOW),
+        Context(ONE_SECOND, 1, CHANGED, SLOW),
+        Data(START, 0, FOUR),
         Nothing,
-        Data(T2, 1, ONE),
+        Data(TWO_SECONDS, 1, ONE),
         Packet(0),
-        Bound(T0, 0, 2, T0, SLOW, 16),
-        Uncertain(Reason::PendingFull, T0, 2, 2, T1, 16),
+        Bound(START, 0, 2, START, SLOW, 16),
+        Uncertain(Reason::PendingFull, START, 2, 2, ONE_SECOND, 16),
         Nothing,
     ];
     play(rt.alloc(), ONE_WAITS, &steps)
@@ -287,12 +291,12 @@ fn an_open_tail_is_uncertain_where_too_many_wait(rt: HostRuntime) -> Result<(), 
 #[test]
 fn a_context_that_is_no_longer_kept_is_told(rt: HostRuntime) -> Result<(), Wrong> {
     let steps = [
-        Context(T0, 0, CHANGED, PLAIN),
-        Context(T1, 1, CHANGED, PLAIN),
-        Context(T2, 2, CHANGED, PLAIN),
-        Data(T0_5, 0, ONE),
+        Context(START, 0, CHANGED, PLAIN),
+        Context(ONE_SECOND, 1, CHANGED, PLAIN),
+        Context(TWO_SECONDS, 2, CHANGED, PLAIN),
+        Data(HALF_PAST, 0, ONE),
         Packet(0),
-        Raw(Reason::TimelineFull, T0_5, 0),
+        Raw(Reason::TimelineFull, HALF_PAST, 0),
         Nothing,
     ];
     play(rt.alloc(), TWO_KEPT, &steps)
@@ -303,11 +307,11 @@ fn a_packet_before_the_first_context_leaves_with_it(rt: HostRuntime) -> Result<(
     let steps = [
         Data(BEFORE, 0, ONE),
         Nothing,
-        Context(T0, 0, CHANGED, PLAIN),
+        Context(START, 0, CHANGED, PLAIN),
         Packet(0),
         Raw(Reason::BeforeFirst, BEFORE, 0),
         Nothing,
-        Context(T1, 1, CHANGED, PLAIN),
+        Context(ONE_SECOND, 1, CHANGED, PLAIN),
         Nothing,
     ];
     play(rt.alloc(), LIMITS, &steps)
@@ -316,11 +320,11 @@ fn a_packet_before_the_first_context_leaves_with_it(rt: HostRuntime) -> Result<(
 #[test]
 fn a_packet_with_no_context_leaves_at_the_end(rt: HostRuntime) -> Result<(), Wrong> {
     let steps = [
-        Data(T0, 0, ONE),
+        Data(START, 0, ONE),
         Nothing,
         End,
         Packet(0),
-        Raw(Reason::Ended, T0, 0),
+        Raw(Reason::Ended, START, 0),
         Nothing,
     ];
     play(rt.alloc(), LIMITS, &steps)
@@ -329,15 +333,15 @@ fn a_packet_with_no_context_leaves_at_the_end(rt: HostRuntime) -> Result<(), Wro
 #[test]
 fn a_payload_that_does_not_divide_leaves_whole(rt: HostRuntime) -> Result<(), Wrong> {
     let steps = [
-        Context(T0, 0, CHANGED, NARROW),
-        Context(T2, 1, CHANGED, NARROW),
-        Data(T0, 0, TWENTY_BITS),
+        Context(START, 0, CHANGED, NARROW),
+        Context(TWO_SECONDS, 1, CHANGED, NARROW),
+        Data(START, 0, TWENTY_BITS),
         Packet(0),
-        Raw(Reason::Shape, T0, 12),
+        Raw(Reason::Shape, START, 12),
         Nothing,
-        Data(T0_5, 1, SIXTEEN_BITS),
+        Data(HALF_PAST, 1, SIXTEEN_BITS),
         Packet(0),
-        Bound(T0_5, 0, 2, T0_5, NARROW, 4),
+        Bound(HALF_PAST, 0, 2, HALF_PAST, NARROW, 4),
         Nothing,
     ];
     play(rt.alloc(), LIMITS, &steps)
@@ -346,14 +350,14 @@ fn a_payload_that_does_not_divide_leaves_whole(rt: HostRuntime) -> Result<(), Wr
 #[test]
 fn the_number_of_packets_lost_is_told(rt: HostRuntime) -> Result<(), Wrong> {
     let steps = [
-        Context(T0, 0, CHANGED, PLAIN),
-        Context(T3, 1, CHANGED, PLAIN),
-        Data(T0, 15, ONE),
+        Context(START, 0, CHANGED, PLAIN),
+        Context(THREE_SECONDS, 1, CHANGED, PLAIN),
+        Data(START, 15, ONE),
         Packet(0),
-        Bound(T0, 0, 1, T0, PLAIN, 16),
-        Data(T1, 2, ONE),
+        Bound(START, 0, 1, START, PLAIN, 16),
+        Data(ONE_SECOND, 2, ONE),
         Packet(2),
-        Bound(T1, 0, 1, T1, PLAIN, 16),
+        Bound(ONE_SECOND, 0, 1, ONE_SECOND, PLAIN, 16),
         Nothing,
     ];
     play(rt.alloc(), LIMITS, &steps)
@@ -362,10 +366,10 @@ fn the_number_of_packets_lost_is_told(rt: HostRuntime) -> Result<(), Wrong> {
 #[test]
 fn a_late_packet_comes_back(rt: HostRuntime) -> Result<(), Wrong> {
     let steps = [
-        Data(T1, 0, ONE),
-        DataTurned(T0, 1, TWO, Answer::Late(T1)),
-        DataTurned(T1, 0, ONE, Answer::Late(T1)),
-        Data(T2, 1, ONE),
+        Data(ONE_SECOND, 0, ONE),
+        DataTurned(START, 1, TWO, Answer::Late(ONE_SECOND)),
+        DataTurned(ONE_SECOND, 0, ONE, Answer::Late(ONE_SECOND)),
+        Data(TWO_SECONDS, 1, ONE),
         Nothing,
     ];
     play(rt.alloc(), LIMITS, &steps)
@@ -374,10 +378,10 @@ fn a_late_packet_comes_back(rt: HostRuntime) -> Result<(), Wrong> {
 #[test]
 fn a_held_packet_turns_a_repeat_and_a_conflict_away(rt: HostRuntime) -> Result<(), Wrong> {
     let steps = [
-        Data(T0, 3, ONE),
-        DataTurned(T0, 3, ONE, Answer::Repeat),
-        DataTurned(T0, 5, ONE, Answer::Conflict(3)),
-        DataTurned(T0, 3, TWO, Answer::Conflict(3)),
+        Data(START, 3, ONE),
+        DataTurned(START, 3, ONE, Answer::Repeat),
+        DataTurned(START, 5, ONE, Answer::Conflict(3)),
+        DataTurned(START, 3, TWO, Answer::Conflict(3)),
         Nothing,
     ];
     play(rt.alloc(), ONE_HELD, &steps)
@@ -386,9 +390,9 @@ fn a_held_packet_turns_a_repeat_and_a_conflict_away(rt: HostRuntime) -> Result<(
 #[test]
 fn a_late_context_is_turned_away(rt: HostRuntime) -> Result<(), Wrong> {
     let steps = [
-        Context(T1, 0, CHANGED, PLAIN),
-        ContextTurned(T0, 1, CHANGED, PLAIN, Answer::Late(T1)),
-        Context(T2, 1, CHANGED, PLAIN),
+        Context(ONE_SECOND, 0, CHANGED, PLAIN),
+        ContextTurned(START, 1, CHANGED, PLAIN, Answer::Late(ONE_SECOND)),
+        Context(TWO_SECONDS, 1, CHANGED, PLAIN),
         Nothing,
     ];
     play(rt.alloc(), LIMITS, &steps)
@@ -397,11 +401,11 @@ fn a_late_context_is_turned_away(rt: HostRuntime) -> Result<(), Wrong> {
 #[test]
 fn a_held_context_turns_a_repeat_and_a_conflict_away(rt: HostRuntime) -> Result<(), Wrong> {
     let steps = [
-        Context(T0, 3, CHANGED, PLAIN),
-        ContextTurned(T0, 3, CHANGED, PLAIN, Answer::Repeat),
-        ContextTurned(T0, 5, CHANGED, PLAIN, Answer::Conflict(3)),
-        ContextTurned(T0, 3, UNCHANGED, PLAIN, Answer::Conflict(3)),
-        ContextTurned(T0, 3, CHANGED, OTHER_GAIN, Answer::Conflict(3)),
+        Context(START, 3, CHANGED, PLAIN),
+        ContextTurned(START, 3, CHANGED, PLAIN, Answer::Repeat),
+        ContextTurned(START, 5, CHANGED, PLAIN, Answer::Conflict(3)),
+        ContextTurned(START, 3, UNCHANGED, PLAIN, Answer::Conflict(3)),
+        ContextTurned(START, 3, CHANGED, OTHER_GAIN, Answer::Conflict(3)),
         Nothing,
     ];
     play(rt.alloc(), ONE_HELD, &steps)
@@ -410,22 +414,22 @@ fn a_held_context_turns_a_repeat_and_a_conflict_away(rt: HostRuntime) -> Result<
 #[test]
 fn what_is_held_leaves_in_order_at_the_end(rt: HostRuntime) -> Result<(), Wrong> {
     let steps = [
-        Context(T0, 0, CHANGED, PLAIN),
-        Context(T1, 1, CHANGED, OTHER_GAIN),
-        Context(T3, 2, CHANGED, PLAIN),
-        Data(T1, 1, ONE),
+        Context(START, 0, CHANGED, PLAIN),
+        Context(ONE_SECOND, 1, CHANGED, OTHER_GAIN),
+        Context(THREE_SECONDS, 2, CHANGED, PLAIN),
+        Data(ONE_SECOND, 1, ONE),
         Nothing,
-        Data(T0, 0, ONE),
+        Data(START, 0, ONE),
         Packet(0),
-        Bound(T0, 0, 1, T0, PLAIN, 16),
+        Bound(START, 0, 1, START, PLAIN, 16),
         Nothing,
-        Data(T2, 2, TWO),
+        Data(TWO_SECONDS, 2, TWO),
         Nothing,
         End,
         Packet(0),
-        Bound(T1, 0, 1, T1, OTHER_GAIN, 16),
+        Bound(ONE_SECOND, 0, 1, ONE_SECOND, OTHER_GAIN, 16),
         Packet(0),
-        Bound(T2, 0, 2, T2, OTHER_GAIN, 16),
+        Bound(TWO_SECONDS, 0, 2, TWO_SECONDS, OTHER_GAIN, 16),
         Nothing,
     ];
     play(rt.alloc(), ONE_HELD, &steps)
