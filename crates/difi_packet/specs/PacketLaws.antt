@@ -1,8 +1,8 @@
 -- Laws of packets: the header tells the kind, and what is refused by its kind is refused by all.
-use Rattle.std.proofs.Common.{◌≡◌, ℕ, suc, ◌<◌, Bool, true, false, List, ◌++◌, length, take, get_or, sym, ap, subst, arith}
+use Rattle.std.proofs.Common.{◌≡◌, ℕ, suc, ◌<◌, Bool, true, false, Result, Ok, Err, IfOk, IfErr, IsOkAnd, List, ◌++◌, length, take, get_or, sym, ap, subst, arith}
 use Rattle.std.proofs.lemmas.List.{get_or-take, length-take}
 use Rattle.vrt_words.specs.Words.{words_of}
-use Rattle.vrt_words.specs.Begins.{IsRefused}
+use Rattle.vrt_words.specs.Begins.{IsDatagram, IsRefused}
 use Rattle.vrt_words.specs.BeginLaws.{begun_words}
 use Rattle.vrt_header.specs.Profile.{PacketProfile}
 use Rattle.vrt_header.specs.Header.{IsKind, prologue_words}
@@ -27,7 +27,9 @@ use Rattle.command_codec.specs.Cancel.{IsCancel}
 use Rattle.command_codec.specs.CancelLaws.{one_cancel}
 use Rattle.ack_codec.specs.Ack.{IsAck}
 use Rattle.ack_codec.specs.AckLaws.{one_ack}
-use Rattle.difi_packet.specs.Packet.{PacketValue, DataValue, ContextValue, VersionValue, ControlValue, CancelValue, AckValue, IsPacket, size_in_words}
+use Rattle.difi_packet.specs.Packet.{PacketValue, DataValue, ContextValue, VersionValue, ControlValue, CancelValue, AckValue, IsPacket, value_of, size_in_words}
+use Rattle.vrt_words.specs.declared.place.Place.{Place}
+use Rattle.difi_packet.specs.declared.packet.Packet.{Packet}
 use Rattle.difi_context.specs.declared.context.ContextRec.{ContextRec}
 use Rattle.difi_version.specs.declared.version.VersionRec.{VersionRec}
 use Rattle.command_codec.specs.declared.control.Control.{Control}
@@ -196,3 +198,10 @@ no_kind profile bytes none =
       };
       no_packet = λ v d. none (kind_in v) (some_word profile v words d.packet, kind_told profile v words d.packet);
     }
+
+-- the answer of a decoder is the only one
+pub one_answer : (profile : PacketProfile) (bytes : List ℕ) (result : Result Packet Place) → IfOk result (λ packet. IsDatagram (IsPacket profile) (value_of packet) bytes)
+    → IfErr result (λ place. IsRefused (IsPacket profile) bytes place.word) → (value : PacketValue) → IsDatagram (IsPacket profile) value bytes
+    → IsOkAnd result (λ packet. value_of packet ≡ value)
+one_answer profile bytes (Ok packet) found refused value d = one_packet profile (value_of packet) value (words_of bytes) found.packet d.packet
+one_answer profile bytes (Err place) found refused value d = absurd (refused.no_packet value d)

@@ -3,6 +3,7 @@ ghost use Rattle.vrt_words.specs.Words.{words_of};
 ghost use Rattle.vrt_words.specs.Begins.{IsDatagram, IsRefused};
 ghost use Rattle.vrt_header.specs.Header.{IsKind};
 ghost use Rattle.vrt_header.specs.declared.header.Kind as kinds;
+ghost use Rattle.vrt_header.specs.declared.header.Kind.TheVariants as variants;
 ghost use Rattle.difi_packet.specs.Packet.{PacketValue, IsPacket, value_of, IsLentFrom};
 
 use ack_codec::{Ack, decode_ack};
@@ -42,31 +43,95 @@ pub fn decode(profile: Profile, bytes: &[u8]) -> Result<Packet<'_>, Place>
     ensures refused { IfErr result (λ place. IsRefused (IsPacket profile) bytes.now place.word) }
 {
     match kind_in(bytes) {
-        Some(Kind::Data) => match difi_data::decode(profile, bytes) {
-            Ok(rec) => Ok(Packet::Data(rec)),
-            Err(place) => Err(place),
-        },
-        Some(Kind::Context) => match difi_context::decode(profile, bytes) {
-            Ok(rec) => Ok(Packet::Context(rec)),
-            Err(place) => Err(place),
-        },
-        Some(Kind::Version) => match difi_version::decode(profile, bytes) {
-            Ok(rec) => Ok(Packet::Version(rec)),
-            Err(place) => Err(place),
-        },
-        Some(Kind::Control) => match decode_control(profile, bytes) {
-            Ok(packet) => Ok(Packet::Control(packet)),
-            Err(place) => Err(place),
-        },
-        Some(Kind::Cancel) => match decode_cancel(profile, bytes) {
-            Ok(packet) => Ok(Packet::Cancel(packet)),
-            Err(place) => Err(place),
-        },
-        Some(Kind::Ack) => match decode_ack(profile, bytes) {
-            Ok(packet) => Ok(Packet::Ack(packet)),
-            Err(place) => Err(place),
-        },
+        Some(Kind::Data) => read_data(profile, bytes),
+        Some(Kind::Context) => read_context(profile, bytes),
+        Some(Kind::Version) => read_version(profile, bytes),
+        Some(Kind::Control) => read_control(profile, bytes),
+        Some(Kind::Cancel) => read_cancel(profile, bytes),
+        Some(Kind::Ack) => read_ack(profile, bytes),
         None => Err(Place { word: 0 }),
+    }
+}
+
+// The data packet that the datagram is, where its header tells that kind.
+fn read_data(profile: Profile, bytes: &[u8]) -> Result<Packet<'_>, Place>
+    requires { IsKind variants.Data (slice_index (words_of bytes.now) 0) }
+    ensures found { IfOk result (λ packet. IsDatagram (IsPacket profile) (value_of packet) bytes.now) }
+    ensures lent { IfOk result (λ packet. IsLentFrom bytes.now packet) }
+    ensures refused { IfErr result (λ place. IsRefused (IsPacket profile) bytes.now place.word) }
+{
+    match difi_data::decode(profile, bytes) {
+        Ok(rec) => Ok(Packet::Data(rec)),
+        Err(place) => Err(place),
+    }
+}
+
+// The context packet that the datagram is, where its header tells that kind.
+fn read_context(profile: Profile, bytes: &[u8]) -> Result<Packet<'_>, Place>
+    requires { IsKind variants.Context (slice_index (words_of bytes.now) 0) }
+    ensures found { IfOk result (λ packet. IsDatagram (IsPacket profile) (value_of packet) bytes.now) }
+    ensures lent { IfOk result (λ packet. IsLentFrom bytes.now packet) }
+    ensures refused { IfErr result (λ place. IsRefused (IsPacket profile) bytes.now place.word) }
+{
+    match difi_context::decode(profile, bytes) {
+        Ok(rec) => Ok(Packet::Context(rec)),
+        Err(place) => Err(place),
+    }
+}
+
+// The version packet that the datagram is, where its header tells that kind.
+#[inline(never)]
+fn read_version(profile: Profile, bytes: &[u8]) -> Result<Packet<'_>, Place>
+    requires { IsKind variants.Version (slice_index (words_of bytes.now) 0) }
+    ensures found { IfOk result (λ packet. IsDatagram (IsPacket profile) (value_of packet) bytes.now) }
+    ensures lent { IfOk result (λ packet. IsLentFrom bytes.now packet) }
+    ensures refused { IfErr result (λ place. IsRefused (IsPacket profile) bytes.now place.word) }
+{
+    match difi_version::decode(profile, bytes) {
+        Ok(rec) => Ok(Packet::Version(rec)),
+        Err(place) => Err(place),
+    }
+}
+
+// The command that the datagram is, where its header tells that kind.
+#[inline(never)]
+fn read_control(profile: Profile, bytes: &[u8]) -> Result<Packet<'_>, Place>
+    requires { IsKind variants.Control (slice_index (words_of bytes.now) 0) }
+    ensures found { IfOk result (λ packet. IsDatagram (IsPacket profile) (value_of packet) bytes.now) }
+    ensures lent { IfOk result (λ packet. IsLentFrom bytes.now packet) }
+    ensures refused { IfErr result (λ place. IsRefused (IsPacket profile) bytes.now place.word) }
+{
+    match decode_control(profile, bytes) {
+        Ok(packet) => Ok(Packet::Control(packet)),
+        Err(place) => Err(place),
+    }
+}
+
+// The cancellation that the datagram is, where its header tells that kind.
+#[inline(never)]
+fn read_cancel(profile: Profile, bytes: &[u8]) -> Result<Packet<'_>, Place>
+    requires { IsKind variants.Cancel (slice_index (words_of bytes.now) 0) }
+    ensures found { IfOk result (λ packet. IsDatagram (IsPacket profile) (value_of packet) bytes.now) }
+    ensures lent { IfOk result (λ packet. IsLentFrom bytes.now packet) }
+    ensures refused { IfErr result (λ place. IsRefused (IsPacket profile) bytes.now place.word) }
+{
+    match decode_cancel(profile, bytes) {
+        Ok(packet) => Ok(Packet::Cancel(packet)),
+        Err(place) => Err(place),
+    }
+}
+
+// The acknowledgement that the datagram is, where its header tells that kind.
+#[inline(never)]
+fn read_ack(profile: Profile, bytes: &[u8]) -> Result<Packet<'_>, Place>
+    requires { IsKind variants.Ack (slice_index (words_of bytes.now) 0) }
+    ensures found { IfOk result (λ packet. IsDatagram (IsPacket profile) (value_of packet) bytes.now) }
+    ensures lent { IfOk result (λ packet. IsLentFrom bytes.now packet) }
+    ensures refused { IfErr result (λ place. IsRefused (IsPacket profile) bytes.now place.word) }
+{
+    match decode_ack(profile, bytes) {
+        Ok(packet) => Ok(Packet::Ack(packet)),
+        Err(place) => Err(place),
     }
 }
 
