@@ -10,7 +10,7 @@ use Rattle.difi_texts.specs.declared.lines.Judgement.{Judgement}
 use Rattle.difi_texts.specs.declared.lines.Judgement.TheVariants.{Accepted, Refused, TooLarge}
 use Rattle.difi_texts.specs.declared.lines.Listing.{Listing}
 use Rattle.difi_texts.specs.Lines.{Account, entries, summary}
-use Rattle.difi_texts.specs.Accounts.{account_of, turned_away}
+use Rattle.difi_texts.specs.Accounts.{accepted, account_of, turned_away}
 
 -- the datagram is this packet, and has no more words than the header allows
 abbrev pub IsAccepted : RecordHead → List ℕ → PacketValue → Type 0
@@ -22,6 +22,11 @@ IsTurnedAway head datagram (Accepted kind stream) = ⊥
 IsTurnedAway head datagram (Refused word) =
     (length datagram ≤ 4 * head.max_words) × IsRefused (IsPacket head.profile) datagram word
 IsTurnedAway head datagram TooLarge = 4 * head.max_words < length datagram
+
+-- what is judged of a datagram
+abbrev pub IsJudged : RecordHead → List ℕ → Judgement → Type 0
+IsJudged head datagram judgement =
+    ((value : PacketValue) × (IsAccepted head datagram value × (judgement ≡ accepted value))) ⊎ IsTurnedAway head datagram judgement
 
 -- what is told of a datagram
 abbrev pub IsAccount : Listing → RecordHead → List ℕ → Account → Type 0

@@ -1,4 +1,4 @@
-use crate::judging::judge;
+use crate::judging::{judge, packet_in};
 use crate::transfer::write_all;
 use difi_io::{Failed, Sink};
 use difi_packet::Packet;
@@ -77,7 +77,23 @@ impl Report {
         ensures noted { (account : Account) × IsAccount self.old.listing head.now datagram.now account
             × IsNoted self.old self.new account }
     {
-        match judge(head, datagram) {
+        match self.listing {
+            Listing::Check => self.note(judge(head, datagram)),
+            Listing::Show => self.tell_all(alloc, head, datagram),
+        }
+    }
+
+    // The same with what a packet holds.
+    #[inline(never)]
+    fn tell_all(&mut self, alloc: Global, head: &RecordHead, datagram: &[u8])
+        requires fits { self.old.frames + 1 < 2 ^ 64 }
+        requires counted { self.old.accepted ≤ self.old.frames }
+        requires room { length self.old.text < 65536 }
+        ensures counted { self.new.accepted ≤ self.new.frames }
+        ensures noted { (account : Account) × IsAccount self.old.listing head.now datagram.now account
+            × IsNoted self.old self.new account }
+    {
+        match packet_in(head, datagram) {
             Ok(packet) => self.note_packet(alloc, &packet),
             Err(judgement) => self.note(judgement),
         }

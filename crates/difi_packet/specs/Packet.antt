@@ -1,5 +1,6 @@
 -- Packets of any kind, by cases on the kind.
 use Rattle.std.specs.Prelude.{◌≡◌, ℕ, List, drop}
+use Rattle.vrt_words.specs.Begins.{IsDatagram}
 use Rattle.vrt_header.specs.Profile.{PacketProfile}
 use Rattle.difi_data.specs.Data.{DataPacket, IsData, packet_of}
 use Rattle.difi_context.specs.Context.{IsContext}
@@ -12,6 +13,9 @@ use Rattle.difi_version.specs.declared.version.VersionRec.{VersionRec}
 use Rattle.command_codec.specs.declared.control.Control as controls
 use Rattle.command_codec.specs.declared.cancel.Cancel as cancels
 use Rattle.ack_codec.specs.declared.ack.Ack as acks
+use Rattle.ack_codec.specs.declared.ack.Ack.TheVariants.{V, X, S}
+use Rattle.difi_packet.specs.declared.kind.PacketKind.{PacketKind}
+use Rattle.difi_packet.specs.declared.kind.PacketKind.TheVariants as kinds
 use Rattle.difi_packet.specs.declared.packet.Packet.{Packet}
 use Rattle.difi_packet.specs.declared.packet.Packet.TheVariants.{Data, Context, Version, Control, Cancel, Ack}
 
@@ -55,3 +59,21 @@ size_in_words (AckValue packet) = (front_of packet).prologue.header.size
 abbrev pub IsLentFrom : List ℕ → Packet → Type 0
 IsLentFrom bytes (Data rec) = rec.payload.now ≡ drop 28 bytes
 IsLentFrom bytes packet = Unit {0}
+
+-- the kind of a packet, and its stream identifier
+abbrev pub ack_kind_and_stream : acks.Ack → PacketKind × ℕ
+ack_kind_and_stream (V report) = (kinds.AckV, report.prologue.stream)
+ack_kind_and_stream (X report) = (kinds.AckX, report.prologue.stream)
+ack_kind_and_stream (S state) = (kinds.AckS, state.prologue.stream)
+
+abbrev pub kind_and_stream : PacketValue → PacketKind × ℕ
+kind_and_stream (DataValue packet) = (kinds.Data, packet.prologue.stream)
+kind_and_stream (ContextValue rec) = (kinds.Context, rec.prologue.stream)
+kind_and_stream (VersionValue rec) = (kinds.Version, rec.prologue.stream)
+kind_and_stream (ControlValue packet) = (kinds.Control, packet.prologue.stream)
+kind_and_stream (CancelValue packet) = (kinds.Cancel, packet.prologue.stream)
+kind_and_stream (AckValue packet) = ack_kind_and_stream packet
+
+-- the datagram is a packet of this kind and stream
+abbrev pub IsClassified : PacketProfile → List ℕ → PacketKind × ℕ → Type 0
+IsClassified profile bytes told = (value : PacketValue) × (IsDatagram (IsPacket profile) value bytes × (told ≡ kind_and_stream value))

@@ -1,5 +1,5 @@
 -- Laws of packets: the header tells the kind, and what is refused by its kind is refused by all.
-use Rattle.std.proofs.Common.{◌≡◌, ℕ, suc, ◌<◌, Bool, true, false, Result, Ok, Err, IfOk, IfErr, IsOkAnd, List, ◌++◌, length, take, get_or, sym, ap, subst, arith}
+use Rattle.std.proofs.Common.{◌≡◌, ℕ, suc, ◌<◌, Bool, true, false, Result, Ok, Err, IfOk, IfErr, IsOkAnd, List, ◌++◌, length, take, get_or, sym, ap, ◌∙◌, subst, arith}
 use Rattle.std.proofs.lemmas.List.{get_or-take, length-take}
 use Rattle.vrt_words.specs.Words.{words_of}
 use Rattle.vrt_words.specs.Begins.{IsDatagram, IsRefused}
@@ -27,9 +27,10 @@ use Rattle.command_codec.specs.Cancel.{IsCancel}
 use Rattle.command_codec.specs.CancelLaws.{one_cancel}
 use Rattle.ack_codec.specs.Ack.{IsAck}
 use Rattle.ack_codec.specs.AckLaws.{one_ack}
-use Rattle.difi_packet.specs.Packet.{PacketValue, DataValue, ContextValue, VersionValue, ControlValue, CancelValue, AckValue, IsPacket, value_of, size_in_words}
+use Rattle.difi_packet.specs.Packet.{PacketValue, DataValue, ContextValue, VersionValue, ControlValue, CancelValue, AckValue, IsPacket, value_of, size_in_words, IsClassified, kind_and_stream}
 use Rattle.vrt_words.specs.declared.place.Place.{Place}
 use Rattle.difi_packet.specs.declared.packet.Packet.{Packet}
+use Rattle.difi_packet.specs.declared.kind.PacketKind.{PacketKind}
 use Rattle.difi_context.specs.declared.context.ContextRec.{ContextRec}
 use Rattle.difi_version.specs.declared.version.VersionRec.{VersionRec}
 use Rattle.command_codec.specs.declared.control.Control.{Control}
@@ -205,3 +206,11 @@ pub one_answer : (profile : PacketProfile) (bytes : List ℕ) (result : Result P
     → IsOkAnd result (λ packet. value_of packet ≡ value)
 one_answer profile bytes (Ok packet) found refused value d = one_packet profile (value_of packet) value (words_of bytes) found.packet d.packet
 one_answer profile bytes (Err place) found refused value d = absurd (refused.no_packet value d)
+
+-- and so is that of a call that tells the kind and the stream alone
+pub one_class : (profile : PacketProfile) (bytes : List ℕ) (result : Result (PacketKind × ℕ) Place) → IfOk result (IsClassified profile bytes)
+    → IfErr result (λ place. IsRefused (IsPacket profile) bytes place.word) → (value : PacketValue) → IsDatagram (IsPacket profile) value bytes
+    → result ≡ Ok (kind_and_stream value)
+one_class profile bytes (Ok told) found refused value d =
+    ap Ok (found.1.1 ∙ ap kind_and_stream (one_packet profile found.0 value (words_of bytes) found.1.0.packet d.packet))
+one_class profile bytes (Err place) found refused value d = absurd (refused.no_packet value d)

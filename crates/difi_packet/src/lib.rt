@@ -2,12 +2,16 @@
 //! datagram outside of it is refused (IEEE-ISTO Std 4900-2021, after ANSI/VITA 49.2-2017).
 #![tactic(auto)]
 
+mod classifying;
 mod encoding;
+mod kind;
 mod packet;
 mod round_trip;
 #[cfg(test)]
 mod tests;
 
+pub use crate::classifying::classify;
 pub use crate::encoding::{encode, size_of};
+pub use crate::kind::{PacketKind, kind_and_stream};
 pub use crate::packet::{Packet, decode};
 pub use crate::round_trip::one_to_one;

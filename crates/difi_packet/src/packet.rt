@@ -135,8 +135,9 @@ fn read_ack(profile: Profile, bytes: &[u8]) -> Result<Packet<'_>, Place>
     }
 }
 
-// The kind of packet, which the first word tells.
-fn kind_in(bytes: &[u8]) -> Option<Kind>
+/// The kind of packet, which the first word tells.
+#[inline]
+pub(crate) fn kind_in(bytes: &[u8]) -> Option<Kind>
     ensures told { IfSome result (λ kind. (0 < length (words_of bytes.now))
         × IsKind kind (slice_index (words_of bytes.now) 0)) }
     ensures none { IfNone result ((kind : kinds.Kind)

@@ -100,6 +100,28 @@ fn refused_at(profile: Profile, words: &[u32; 11]) -> Option<Place> {
     }
 }
 
+// The kind and the stream that these words tell, or the place at which they are refused.
+fn class_of(profile: Profile, words: &[u32]) -> Result<(PacketKind, u32), Place>
+    requires { length words.now ≤ 27 }
+{
+    let mut bytes = [0; 108];
+    put_words(&mut bytes, 0, words);
+    classify(profile, &bytes[..4 * words.len()])
+}
+
+#[test]
+fn each_kind_is_told_with_its_stream(rt: HostRuntime) {
+    let profile = Profile::of(0x6A_621E, 1).expect(&rt, "a profile");
+    assert_eq!(rt; class_of(profile, &DATA), Ok((PacketKind::Data, 1)));
+    assert_eq!(rt; class_of(profile, &CONTEXT), Ok((PacketKind::Context, 1)));
+    assert_eq!(rt; class_of(profile, &VERSION), Ok((PacketKind::Version, 1)));
+    assert_eq!(rt; class_of(profile, &CONTROL), Ok((PacketKind::Control, 1)));
+    assert_eq!(rt; class_of(profile, &CANCEL), Ok((PacketKind::Cancel, 1)));
+    assert_eq!(rt; class_of(profile, &ACK_X), Ok((PacketKind::AckX, 1)));
+    assert_eq!(rt; class_of(profile, &ACK_S), Ok((PacketKind::AckS, 1)));
+    assert_eq!(rt; class_of(profile, &DATA[..7]), Err(Place { word: 7 }));
+}
+
 #[test]
 fn each_kind_is_read_and_written_again(rt: HostRuntime) {
     let profile = Profile::of(0x6A_621E, 1).expect(&rt, "a profile");

@@ -10,5 +10,5 @@ mod tests;
 mod text_buffer;
 
 pub use crate::details::push_under;
-pub use crate::lines::{Judgement, Listing, PacketKind, accepted, push_counts, push_line};
+pub use crate::lines::{Judgement, Listing, accepted, push_counts, push_line};
 pub use crate::text_buffer::TextBuffer;

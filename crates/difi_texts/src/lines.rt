@@ -1,11 +1,10 @@
 ghost use Rattle.std.specs.Prelude.{◌≡◌, ◌≤◌, ◌+◌, ◌++◌, length};
 ghost use Rattle.difi_packet.specs.Packet.{value_of};
-ghost use Rattle.difi_texts.specs.Accounts.{accepted, accepted_ack};
+ghost use Rattle.difi_texts.specs.Accounts.{accepted};
 ghost use Rattle.difi_texts.specs.Lines.{acceptance, line, outcome, counts};
 
 use crate::text_buffer::TextBuffer;
-use ack_codec::Ack;
-use difi_packet::Packet;
+use difi_packet::{Packet, PacketKind, kind_and_stream};
 
 /// What is told of the frames of a record.
 #[derive(Clone, Copy, Debug, PartialEq, Eq)]
@@ -14,27 +13,6 @@ pub enum Listing {
     Check,
     /// And under it, what an accepted packet holds.
     Show,
-}
-
-/// The kinds of packet.
-#[derive(Clone, Copy, Debug, PartialEq, Eq)]
-pub enum PacketKind {
-    /// Samples of a signal.
-    Data,
-    /// What a converter says of the signal.
-    Context,
-    /// Which versions a converter speaks.
-    Version,
-    /// A command.
-    Control,
-    /// A cancellation of a command.
-    Cancel,
-    /// An acknowledgement of a command's validation.
-    AckV,
-    /// An acknowledgement of a command's execution.
-    AckX,
-    /// An answer to a query of the state.
-    AckS,
 }
 
 /// What is judged of a datagram.
@@ -52,40 +30,7 @@ pub enum Judgement {
 pub fn accepted(packet: &Packet<'_>) -> Judgement
     ensures { result ≡ accepted (value_of packet.now) }
 {
-    match packet {
-        Packet::Data(rec) => Judgement::Accepted {
-            kind: PacketKind::Data,
-            stream: rec.prologue.stream,
-        },
-        Packet::Context(rec) => Judgement::Accepted {
-            kind: PacketKind::Context,
-            stream: rec.prologue.stream,
-        },
-        Packet::Version(rec) => Judgement::Accepted {
-            kind: PacketKind::Version,
-            stream: rec.prologue.stream,
-        },
-        Packet::Control(packet) => Judgement::Accepted {
-            kind: PacketKind::Control,
-            stream: packet.prologue.stream,
-        },
-        Packet::Cancel(packet) => Judgement::Accepted {
-            kind: PacketKind::Cancel,
-            stream: packet.prologue.stream,
-        },
-        Packet::Ack(packet) => accepted_ack(packet),
-    }
-}
-
-/// What is judged of an acknowledgement.
-pub(crate) fn accepted_ack(packet: &Ack) -> Judgement
-    ensures { result ≡ accepted_ack packet.now }
-{
-    let (kind, stream) = match packet {
-        Ack::V(report) => (PacketKind::AckV, report.prologue.stream),
-        Ack::X(report) => (PacketKind::AckX, report.prologue.stream),
-        Ack::S(state) => (PacketKind::AckS, state.prologue.stream),
-    };
+    let (kind, stream) = kind_and_stream(packet);
     Judgement::Accepted { kind, stream }
 }
 

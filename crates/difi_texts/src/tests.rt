@@ -1,9 +1,9 @@
 use super::command_details::{push_ack, push_cancel, push_control};
-use super::lines::accepted_ack;
 use super::*;
 use ack_codec::{Ack, AckReport, AckState, Responses};
 use cam_field::{Action, Cam, Ident, Timing};
 use command_codec::{Cancel, Control};
+use difi_packet::{Packet, PacketKind};
 use vrt_fields::{Field, FieldSet};
 use vrt_header::{Header, Kind, Prologue};
 use vrt_time::Stamp;
@@ -228,9 +228,21 @@ fn an_answer_to_a_query_is_shown_with_its_fields(rt: HostRuntime) -> Result<(), 
 #[test]
 fn each_acknowledgement_has_its_line(rt: HostRuntime) -> Result<(), NoMemory> {
     let mut out = TextBuffer::open(rt.alloc())?;
-    push_line(&mut out, 1, accepted_ack(&Ack::V(report_of(SILENT))));
-    push_line(&mut out, 2, accepted_ack(&Ack::X(report_of(SILENT))));
-    push_line(&mut out, 3, accepted_ack(&Ack::S(state_of(SILENT))));
+    push_line(
+        &mut out,
+        1,
+        accepted(&Packet::Ack(Ack::V(report_of(SILENT)))),
+    );
+    push_line(
+        &mut out,
+        2,
+        accepted(&Packet::Ack(Ack::X(report_of(SILENT)))),
+    );
+    push_line(
+        &mut out,
+        3,
+        accepted(&Packet::Ack(Ack::S(state_of(SILENT)))),
+    );
     let text =
         b"frame 1 ok ackv stream 00000001\nframe 2 ok ackx stream 00000001\nframe 3 ok acks stream 00000001\n";
     assert_eq!(rt; out.as_slice(), text.as_slice());

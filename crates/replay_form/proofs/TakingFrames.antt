@@ -1,10 +1,12 @@
 -- How far a frame has come, by its bytes and by its fields.
-use Rattle.std.proofs.Common.{◌≡◌, ℕ, zero, suc, ◌+◌, ◌<◌, ◌≤◌, inl, inr, List, ◌++◌, length, take, drop, sym, ap, ◌∙◌, subst, below_more, append-nil, arith}
+use Rattle.std.proofs.Common.{◌≡◌, ℕ, zero, suc, ◌+◌, ◌^◌, ◌<◌, ◌≤◌, inl, inr, List, [], ◌∷◌, ◌++◌, length, take, drop, sym, ap, ◌∙◌, subst, below_more, append-nil, arith}
 use Rattle.std.proofs.lemmas.Bool.{cases_order}
-use Rattle.std.proofs.lemmas.List.{length-drop}
+use Rattle.std.proofs.lemmas.List.{length-drop, length-take-le, take-take}
 use Rattle.vrt_time.specs.Time.{TimeStamp}
+use Rattle.replay_form.specs.Numbers.{number_at}
 use Rattle.replay_form.specs.NumberLaws.{number_at-append, number_at-take}
-use Rattle.replay_form.specs.FrameFields.{AreFrameRight, IsFrameGood, IsFrameJudged, IsFramePart, IsFrameWrongAt, IsWholeFrame, frame_field, frame_end, frame_size}
+use Rattle.replay_form.specs.FrameFields.{ArePicos, AreFrameRight, IsFrameGood, IsFrameJudged, IsFramePart, IsFrameRightIn, IsFrameWrongAt, IsWholeFrame, frame_field, frame_end, frame_size}
+use Rattle.replay_form.specs.declared.frame_field.FrameField.TheVariants.{Seconds, Picos, Port, Zero, Length}
 use Rattle.replay_form.specs.PrefixLaws.{frame_right-append, frame_wrong-append}
 use Rattle.replay_form.specs.Taking.{IsFrameBegun, IsFrameWhole}
 use Rattle.replay_form.proofs.Taking.{all_of_piece, two_parts}
@@ -111,3 +113,55 @@ frame_takes_some last old piece new zero part whole =
     let long : length old ≡ frame_size old = subst (λ xs. length xs ≡ frame_size xs) same whole.whole.all in
     absurd (omega arith)
 frame_takes_some last old piece new (suc n) part whole = omega arith
+
+-- ---- a frame that stands whole in a piece
+
+-- the fields in front of the datagram, by what their numbers are
+pub front_right : (last : TimeStamp) (bytes : List ℕ) → 20 ≤ length bytes → last.seconds ≤ number_at 0 4 bytes → ArePicos last (number_at 0 4 bytes) (number_at 4 8 bytes)
+    → number_at 14 2 bytes ≡ 0 → number_at 16 4 bytes ≤ 65535 → AreFrameRight last bytes 5
+front_right last bytes there seconds picos clear short zero h =
+    record { there = omega arith; right = (let e = number_at-take 0 4 4 bytes (omega arith) in omega arith) }
+front_right last bytes there seconds picos clear short (suc zero) h = record {
+  there = omega arith;
+  right = rw (number_at-take 0 4 12 bytes (omega arith), number_at-take 4 8 12 bytes (omega arith)) picos;
+}
+front_right last bytes there seconds picos clear short (suc (suc zero)) h = record { there = omega arith; right = tt }
+front_right last bytes there seconds picos clear short (suc (suc (suc zero))) h =
+    record { there = omega arith; right = number_at-take 14 2 16 bytes (omega arith) ∙ clear }
+front_right last bytes there seconds picos clear short (suc (suc (suc (suc zero)))) h =
+    record { there = omega arith; right = (let e = number_at-take 16 4 20 bytes (omega arith) in omega arith) }
+front_right last bytes there seconds picos clear short (suc (suc (suc (suc (suc i))))) h = absurd (omega arith)
+
+-- they stand in the first 20 bytes
+front_of_take : (last : TimeStamp) (bytes : List ℕ) (n : ℕ) → 20 ≤ n → n ≤ length bytes → AreFrameRight last bytes 5 → AreFrameRight last (take n bytes) 5
+front_of_take last bytes n from to right zero h =
+    record { there = omega (arith, length-take-le n bytes to); right = subst (IsFrameRightIn last Seconds) (sym (take-take 4 n bytes (omega arith))) (right 0 h).right }
+front_of_take last bytes n from to right (suc zero) h =
+    record { there = omega (arith, length-take-le n bytes to); right = subst (IsFrameRightIn last Picos) (sym (take-take 12 n bytes (omega arith))) (right 1 h).right }
+front_of_take last bytes n from to right (suc (suc zero)) h = record { there = omega (arith, length-take-le n bytes to); right = tt }
+front_of_take last bytes n from to right (suc (suc (suc zero))) h =
+    record { there = omega (arith, length-take-le n bytes to); right = subst (IsFrameRightIn last Zero) (sym (take-take 16 n bytes (omega arith))) (right 3 h).right }
+front_of_take last bytes n from to right (suc (suc (suc (suc zero)))) h =
+    record { there = omega (arith, length-take-le n bytes to); right = subst (IsFrameRightIn last Length) (sym (take-take 20 n bytes (omega arith))) (right 4 h).right }
+front_of_take last bytes n from to right (suc (suc (suc (suc (suc i))))) h = absurd (omega arith)
+
+pub whole_in_front : (last : TimeStamp) (bytes : List ℕ) → AreFrameRight last bytes 5 → frame_size bytes ≤ length bytes → IsWholeFrame last (take (frame_size bytes) bytes)
+whole_in_front last bytes right there =
+    let n = frame_size bytes in
+    datagram_whole last (take n bytes) (front_of_take last bytes n (omega arith) there right)
+    (length-take-le n bytes there ∙ ap (λ k. 20 + k) (sym (number_at-take 16 4 n bytes (omega arith))))
+
+-- it is taken at once
+pub whole_at_once : (last : TimeStamp) (old piece new : List ℕ) (n size : ℕ) → length old ≡ 0 → new ≡ old ++ take n piece → n ≤ length piece
+    → (length new < size → n ≡ length piece) → (length old ≤ size → length new ≤ size) → size ≤ length piece → IsWholeFrame last (take size piece)
+    → IsFrameWhole last old piece new n
+whole_at_once last [] piece new n size none e few all within there whole =
+    let long : length new ≡ n = ap length e ∙ length-take-le n piece few in
+    let most = within (omega arith) in
+    let same : n ≡ size = elim (cases_order n size) [
+      | inl eq ↦ eq
+      | inr (inl less) ↦ absurd (let short = all (omega arith) in omega arith)
+      | inr (inr more) ↦ absurd (omega arith)
+    ] in
+    record { few = few; held = e; whole = subst (IsWholeFrame last) (ap (λ k. take k piece) (sym same) ∙ sym e) whole }
+whole_at_once last (x ∷ old) piece new n size none e few all within there whole = absurd (omega arith)

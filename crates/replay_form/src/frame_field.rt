@@ -1,5 +1,5 @@
-ghost use Rattle.std.specs.Prelude.{◌≡◌, ◌+◌, ◌<◌, ◌≤◌, ◌^◌, ◌↔◌, IsTrue, length, IfOk, IfErr};
-ghost use Rattle.replay_form.specs.FrameFields.{AreFrameRight, IsFrameRightIn, IsFrameWrongAt, IsFrameJudged, ArePicos, frame_offset, frame_end, frame_field, frame_size};
+ghost use Rattle.std.specs.Prelude.{◌≡◌, ◌+◌, ◌<◌, ◌≤◌, ◌^◌, ◌↔◌, IsTrue, length, take, IfOk, IfErr, IfSome};
+ghost use Rattle.replay_form.specs.FrameFields.{AreFrameRight, IsWholeFrame, IsFrameRightIn, IsFrameWrongAt, IsFrameJudged, ArePicos, frame_offset, frame_end, frame_field, frame_size};
 ghost use Rattle.replay_form.specs.Numbers.{number_at};
 
 use crate::numbers::{u16_at, u32_at, u64_at};
@@ -73,6 +73,33 @@ pub(crate) fn size_of_frame(bytes: &[u8]) -> usize
     ensures { result ≡ frame_size bytes.now }
 {
     FRAME_HEAD + u32_at(bytes, 16) as usize
+}
+
+/// The bytes of the frame with which these begin, where all of it is there and none of it is wrong.
+#[inline]
+pub(crate) fn whole_frame(last: Stamp, bytes: &[u8]) -> Option<usize>
+    ensures few { IfSome result (λ size. size ≤ length bytes.now) }
+    ensures most { IfSome result (λ size. size ≤ 65555) }
+    ensures whole { IfSome result (λ size. IsWholeFrame last (take size bytes.now)) }
+{
+    if bytes.len() < FRAME_HEAD || !is_front_right(last, bytes) {
+        return None;
+    }
+    let size = size_of_frame(bytes);
+    if bytes.len() < size { None } else { Some(size) }
+}
+
+// Whether the fields in front of the datagram are right.
+#[inline]
+fn is_front_right(last: Stamp, bytes: &[u8]) -> bool
+    requires { 20 ≤ length bytes.now }
+    ensures { IsTrue result → AreFrameRight last bytes.now 5 }
+{
+    let seconds = u32_at(bytes, 0);
+    if seconds < last.seconds() || u16_at(bytes, 14) != 0 || u32_at(bytes, 16) > 65_535 {
+        return false;
+    }
+    are_picos(last, seconds, u64_at(bytes, 4))
 }
 
 /// Judges the fields of a frame whose bytes are all there. Answers how many are there and right, of

@@ -3,7 +3,7 @@ ghost use Rattle.replay_form.specs.HeadFields.{IsHeadOpen, IsWholeHead, IsHeadWr
 ghost use Rattle.replay_form.specs.Taking.{IsHeadTaken, IsHeadBegun, TakesSome, IsFrameTaken, IsFrameBegun, FrameTakesSome};
 ghost use Rattle.replay_form.specs.FrameFields.{IsFramePart, IsWholeFrame, IsFrameWrongAt};
 
-use crate::frame_field::{FRAME_HEAD, judge_frame, size_of_frame};
+use crate::frame_field::{FRAME_HEAD, judge_frame, size_of_frame, whole_frame};
 use crate::head_field::{FIXED_SIZE, size_of_route};
 use crate::judge_head::{is_second_form, judge_head};
 use crate::numbers::u32_at;
@@ -102,7 +102,26 @@ fn take_routes(held: &mut Vec<u8>, judged: usize, piece: &[u8]) -> Result<HeadTa
 
 /// Takes bytes of the piece until a frame is whole, and judges each field as soon as it is there.
 /// `Err` has the offset of the first field that is wrong, in the frame.
+#[inline]
 pub(crate) fn take_frame(held: &mut Vec<u8>, last: Stamp, piece: &[u8]) -> Result<FrameTaken, usize>
+    requires begun { IsFramePart last held.old.items }
+    requires room { 65555 ≤ vec_capacity held.old }
+    ensures taken { IfOk result (λ taken. IsFrameTaken last held.old.items piece.now taken held.new.items) }
+    ensures progress { IfOk result FrameTakesSome }
+    ensures wrong { IfErr result (λ offset. IsFrameWrongAt last (held.old.items ++ piece.now) offset) }
+    ensures capacity { vec_capacity held.old ≤ vec_capacity held.new }
+{
+    if held.as_slice().is_empty()
+        && let Some(size) = whole_frame(last, piece)
+    {
+        return Ok(FrameTaken::Whole(take_up_to(held, piece, size)));
+    }
+    take_in_parts(held, last, piece)
+}
+
+// The same where the frame is not whole in the piece alone, or wrong.
+#[inline(never)]
+fn take_in_parts(held: &mut Vec<u8>, last: Stamp, piece: &[u8]) -> Result<FrameTaken, usize>
     requires begun { IsFramePart last held.old.items }
     requires room { 65555 ≤ vec_capacity held.old }
     ensures taken { IfOk result (λ taken. IsFrameTaken last held.old.items piece.now taken held.new.items) }

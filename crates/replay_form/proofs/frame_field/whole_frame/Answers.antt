@@ -1,0 +1,17 @@
+-- The frame stands whole in front.
+use Rattle.std.proofs.Common.{◌≤◌, List, length, take, sym, ap, subst, arith}
+use Rattle.replay_form.specs.FrameFields.{IsWholeFrame, frame_size}
+use Rattle.replay_form.proofs.TakingFrames.{frame_most, whole_in_front}
+use Rattle.replay_form.proofs.frame_field.whole_frame.Goals as goal
+
+pub returns-else-bytes-size-clause-most : goal.returns-else-bytes-size-clause-most
+returns-else-bytes-size-clause-most c =
+    let right = c.is_front_right.ensures (c.if-not-is_front_right.false) in
+    let most = frame_most c.args.last c.args.bytes.now right in
+    omega (arith, c.size_of_frame-size.ensures)
+
+pub returns-else-bytes-size-clause-whole : goal.returns-else-bytes-size-clause-whole
+returns-else-bytes-size-clause-whole c =
+    let right = c.is_front_right.ensures (c.if-not-is_front_right.false) in
+    let there : frame_size c.args.bytes.now ≤ length c.args.bytes.now = omega (arith, c.size_of_frame-size.ensures) in
+    subst (λ n. IsWholeFrame c.args.last (take n c.args.bytes.now)) (sym c.size_of_frame-size.ensures) (whole_in_front c.args.last c.args.bytes.now right there)
