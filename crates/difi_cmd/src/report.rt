@@ -2,7 +2,9 @@ use crate::judging::{judge, packet_in};
 use crate::transfer::write_all;
 use difi_io::{Failed, Sink};
 use difi_packet::Packet;
-use difi_texts::{Judgement, Listing, TextBuffer, accepted, push_counts, push_line, push_under};
+use difi_texts::{
+    Judgement, Listing, Numeral, TextBuffer, accepted, push_counts, push_line, push_under,
+};
 use replay_form::RecordHead;
 use std::alloc::Global;
 
@@ -14,7 +16,7 @@ pub(crate) struct Report {
     /// What is told.
     pub listing: Listing,
     /// How many frames were judged.
-    pub frames: u64,
+    pub frames: Numeral,
     /// How many of them are packets.
     pub accepted: u64,
     /// The text that is to be written next.
@@ -40,7 +42,7 @@ impl Report {
     {
         Report {
             listing,
-            frames: 0,
+            frames: Numeral::zero(),
             accepted: 0,
             text,
             failed: false,
@@ -120,11 +122,11 @@ impl Report {
         ensures room { length self.new.text ≤ length self.old.text + 64 }
         ensures noted { IsNoted self.old self.new (turned_away judgement) }
     {
-        self.frames += 1;
+        self.frames.step();
         if let Judgement::Accepted { .. } = judgement {
             self.accepted += 1;
         }
-        push_line(&mut self.text, self.frames, judgement);
+        push_line(&mut self.text, &self.frames, judgement);
     }
 
     // Writes the text that waits, where no write failed.
@@ -169,7 +171,7 @@ impl Report {
             IsFinished result start (K.held sink.new) before (K.faults sink.new)
             (entries 1 accounts ++ summary accounts) }
     {
-        push_counts(&mut self.text, self.frames, self.accepted);
+        push_counts(&mut self.text, self.frames.number(), self.accepted);
         self.send(sink);
         if self.failed { Err(Failed) } else { Ok(()) }
     }

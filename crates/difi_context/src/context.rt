@@ -29,6 +29,7 @@ pub struct ContextRec {
 ///
 /// `Err` at the first word with which no context packet goes on, or at the number of whole words
 /// where they begin a longer one; where a packet stands first and more bytes follow, at its size.
+#[inline(always)]
 pub fn decode(profile: Profile, bytes: &[u8]) -> Result<ContextRec, Place>
     ensures found { IfOk result (λ rec. IsDatagram (IsContext profile) rec bytes.now) }
     ensures only { (rec : ContextRec) → IsDatagram (IsContext profile) rec bytes.now → result ≡ Ok rec }
@@ -70,6 +71,7 @@ fn is_context(bytes: &[u8]) -> bool
 }
 
 // The change indicator, where nothing is wrong behind the prologue of a context.
+#[inline(always)]
 fn check_behind(bytes: &[u8]) -> Result<bool, Place>
     requires { 7 ≤ length (words_of bytes.now) }
     ensures found { IfOk result (λ changed. IsBehind changed bytes.now) }

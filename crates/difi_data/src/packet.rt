@@ -23,6 +23,7 @@ pub struct DataRec<'a> {
 ///
 /// `Err` at the first word with which no data packet goes on, or at the number of whole words where
 /// they begin a longer one; where a packet stands first and more bytes follow, at its size.
+#[inline(always)]
 pub fn decode(profile: Profile, bytes: &[u8]) -> Result<DataRec<'_>, Place>
     ensures found { IfOk result (λ rec. IsDatagram (IsData profile) (packet_of rec) bytes.now) }
     ensures payload { IfOk result (λ rec. rec.payload.now ≡ drop 28 bytes.now) }

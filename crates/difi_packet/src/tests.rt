@@ -41,6 +41,11 @@ const ACK_S: [u32; 12] = [
     0xC0000000,
 ];
 
+// The acknowledgement of a command's validation.
+const ACK_V: [u32; 9] = [
+    0x6C600009, 1, 0x006A621E, 0, 0x6553F10A, 0, 0, 0x00100000, 7,
+];
+
 // The other commands and answers of an exchange: in part, at a time, a query and a warning.
 const OTHERS: [[u32; 13]; 4] = [
     [
@@ -117,6 +122,7 @@ fn each_kind_is_told_with_its_stream(rt: HostRuntime) {
     assert_eq!(rt; class_of(profile, &VERSION), Ok((PacketKind::Version, 1)));
     assert_eq!(rt; class_of(profile, &CONTROL), Ok((PacketKind::Control, 1)));
     assert_eq!(rt; class_of(profile, &CANCEL), Ok((PacketKind::Cancel, 1)));
+    assert_eq!(rt; class_of(profile, &ACK_V), Ok((PacketKind::AckV, 1)));
     assert_eq!(rt; class_of(profile, &ACK_X), Ok((PacketKind::AckX, 1)));
     assert_eq!(rt; class_of(profile, &ACK_S), Ok((PacketKind::AckS, 1)));
     assert_eq!(rt; class_of(profile, &DATA[..7]), Err(Place { word: 7 }));

@@ -5,10 +5,12 @@ mod command_details;
 mod details;
 mod fields;
 mod lines;
+mod numeral;
 #[cfg(test)]
 mod tests;
 mod text_buffer;
 
 pub use crate::details::push_under;
 pub use crate::lines::{Judgement, Listing, accepted, push_counts, push_line};
+pub use crate::numeral::Numeral;
 pub use crate::text_buffer::TextBuffer;

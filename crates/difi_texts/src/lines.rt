@@ -3,6 +3,7 @@ ghost use Rattle.difi_packet.specs.Packet.{value_of};
 ghost use Rattle.difi_texts.specs.Accounts.{accepted};
 ghost use Rattle.difi_texts.specs.Lines.{acceptance, line, outcome, counts};
 
+use crate::numeral::Numeral;
 use crate::text_buffer::TextBuffer;
 use difi_packet::{Packet, PacketKind, kind_and_stream};
 
@@ -35,13 +36,13 @@ pub fn accepted(packet: &Packet<'_>) -> Judgement
 }
 
 /// Puts the line of the frame with this number behind the text.
-pub fn push_line(out: &mut TextBuffer, number: u64, judgement: Judgement)
+pub fn push_line(out: &mut TextBuffer, number: &Numeral, judgement: Judgement)
     requires { length out.old + 64 ≤ 67584 }
-    ensures text { out.new ≡ out.old ++ line number judgement }
+    ensures text { out.new ≡ out.old ++ line number.now judgement }
     ensures length { length out.new ≤ length out.old + 64 }
 {
     out.push(b"frame ");
-    out.push_decimal(number);
+    out.push(number.digits());
     push_outcome(out, judgement);
     out.push(b"\n");
 }
@@ -54,7 +55,7 @@ fn push_outcome(out: &mut TextBuffer, judgement: Judgement)
 {
     match judgement {
         Judgement::Accepted { kind, stream } => {
-            out.push(acceptance_of(kind));
+            push_acceptance(out, kind);
             out.push_hexadecimal(stream);
         }
         Judgement::Refused { word } => {
@@ -66,19 +67,21 @@ fn push_outcome(out: &mut TextBuffer, judgement: Judgement)
 }
 
 // What a line says of an accepted packet in front of its stream.
-fn acceptance_of(kind: PacketKind) -> &'static [u8]
-    ensures text { result.now ≡ acceptance kind }
-    ensures length { length result.now ≤ 19 }
+#[inline]
+fn push_acceptance(out: &mut TextBuffer, kind: PacketKind)
+    requires { length out.old + 19 ≤ 67584 }
+    ensures text { out.new ≡ out.old ++ acceptance kind }
+    ensures length { length out.new ≤ length out.old + 19 }
 {
     match kind {
-        PacketKind::Data => b" ok data stream ",
-        PacketKind::Context => b" ok context stream ",
-        PacketKind::Version => b" ok version stream ",
-        PacketKind::Control => b" ok control stream ",
-        PacketKind::Cancel => b" ok cancel stream ",
-        PacketKind::AckV => b" ok ackv stream ",
-        PacketKind::AckX => b" ok ackx stream ",
-        PacketKind::AckS => b" ok acks stream ",
+        PacketKind::Data => out.push(b" ok data stream "),
+        PacketKind::Context => out.push(b" ok context stream "),
+        PacketKind::Version => out.push(b" ok version stream "),
+        PacketKind::Control => out.push(b" ok control stream "),
+        PacketKind::Cancel => out.push(b" ok cancel stream "),
+        PacketKind::AckV => out.push(b" ok ackv stream "),
+        PacketKind::AckX => out.push(b" ok ackx stream "),
+        PacketKind::AckS => out.push(b" ok acks stream "),
     }
 }
 

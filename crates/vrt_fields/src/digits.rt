@@ -125,8 +125,8 @@ fn glyph(digit: u32) -> u8
     }
 }
 
-// Writes a number in decimal digits to the end of `into`, and tells where they start.
-fn fill_decimal(into: &mut [u8; 20], number: u64) -> usize
+/// Writes a number in decimal digits to the end of `into`, and tells where they start.
+pub fn fill_decimal(into: &mut [u8; 20], number: u64) -> usize
     ensures within { result ≤ 20 }
     ensures text { drop result into.new ≡ decimal number }
 {

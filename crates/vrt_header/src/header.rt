@@ -43,6 +43,7 @@ pub struct Header {
 
 /// The kind that a header word tells, with the bits that are fixed for it. `None` exactly where the
 /// word has the packet type or the bits of none.
+#[inline(always)]
 pub fn kind_of(word: u32) -> Option<Kind>
     ensures found { IfSome result (λ kind. IsKind kind word) }
     ensures only { (kind : Kind) → IsKind kind word → result ≡ Some kind }
@@ -64,6 +65,7 @@ pub fn kind_of(word: u32) -> Option<Kind>
 }
 
 // Whether the header word says that a timestamp follows, where its codes are allowed for the kind.
+#[inline(always)]
 fn timed_of(tsi: u8, kind: Kind, word: u32) -> Option<bool>
     ensures found { IfSome result (λ timed. IsTimed tsi kind timed word) }
     ensures only { (timed : Bool) → IsTimed tsi kind timed word → result ≡ Some timed }
@@ -79,6 +81,7 @@ fn timed_of(tsi: u8, kind: Kind, word: u32) -> Option<bool>
 }
 
 // Whether packets of the kind can have this size.
+#[inline(always)]
 fn has_size(kind: Kind, timed: bool, size: u16) -> bool
     ensures { result ≡ is_size kind timed size }
 {
@@ -94,6 +97,7 @@ fn has_size(kind: Kind, timed: bool, size: u16) -> bool
 }
 
 /// The header that a word spells, if it spells one.
+#[inline(always)]
 pub fn header_of(profile: Profile, word: u32) -> Option<Header>
     ensures found { IfSome result (λ header. IsHeader profile header word) }
     ensures only { (header : Header) → IsHeader profile header word → result ≡ Some header }

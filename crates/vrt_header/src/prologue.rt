@@ -32,6 +32,7 @@ pub struct Prologue {
 ///
 /// `Err` at the first word with which no prologue goes on, or at the number of whole words where
 /// they end inside a prologue.
+#[inline(always)]
 pub fn read_prologue(profile: Profile, bytes: &[u8]) -> Result<Prologue, Place>
     ensures found { IfOk result (λ prologue.
         IsPrologue profile prologue (take (prologue_words prologue.header.timed) (words_of bytes.now))) }
@@ -47,6 +48,7 @@ pub fn read_prologue(profile: Profile, bytes: &[u8]) -> Result<Prologue, Place>
 }
 
 // The rest of the prologue behind its header.
+#[inline(always)]
 fn read_behind(profile: Profile, header: Header, bytes: &[u8]) -> Result<Prologue, Place>
     requires header { IsHeader profile header (slice_index (words_of bytes.now) 0) }
     requires there { 0 < length (words_of bytes.now) }
@@ -73,6 +75,7 @@ fn read_behind(profile: Profile, header: Header, bytes: &[u8]) -> Result<Prologu
 }
 
 // The pad bit count of the class word, where the word is right for the kind.
+#[inline(always)]
 fn pad_of(profile: Profile, kind: Kind, word: u32) -> Option<u8>
     ensures right { IsSome result ↔ IsClassWord profile kind word }
     ensures pad { IfSome result (λ pad. pad ≡ bits word 27 5) }
@@ -87,6 +90,7 @@ fn pad_of(profile: Profile, kind: Kind, word: u32) -> Option<u8>
 }
 
 // The information class and the packet class, where they are right for the kind.
+#[inline(always)]
 fn class_of(kind: Kind, word: u32) -> Option<(u16, u16)>
     ensures right { IsSome result ↔ IsClass kind (bits word 16 16) (bits word 0 16) }
     ensures codes { IfSome result (λ codes. (codes.0 ≡ bits word 16 16) × (codes.1 ≡ bits word 0 16)) }
@@ -102,6 +106,7 @@ fn class_of(kind: Kind, word: u32) -> Option<(u16, u16)>
 }
 
 // The stamp behind the class words, if the header says that there is one.
+#[inline(always)]
 fn stamp_of(header: Header, bytes: &[u8]) -> Result<Option<Stamp>, Place>
     requires { 4 ≤ length (words_of bytes.now) }
     ensures found { IfOk result (λ stamp. (prologue_words header.timed ≤ length (words_of bytes.now))
@@ -119,6 +124,7 @@ fn stamp_of(header: Header, bytes: &[u8]) -> Result<Option<Stamp>, Place>
 }
 
 // The stamp in the words 4 to 6.
+#[inline(always)]
 fn stamp_at(bytes: &[u8]) -> Result<Stamp, Place>
     requires { 4 ≤ length (words_of bytes.now) }
     ensures found { IfOk result (λ stamp. (7 ≤ length (words_of bytes.now)) × IsStamped true (Some stamp) (words_of bytes.now)) }
