@@ -101,6 +101,7 @@ fn changed_of(bytes: &[u8]) -> Result<bool, Place>
 }
 
 // Whether the sample rate is at least 1 Hz.
+#[inline(always)]
 fn check_rate(bytes: &[u8]) -> Result<(), Place>
     requires { IsRightTo (words_of bytes.now) 8 }
     ensures right { OnOk result (IsRightTo (words_of bytes.now) 21) }
@@ -118,6 +119,7 @@ fn check_rate(bytes: &[u8]) -> Result<(), Place>
 }
 
 // Whether the payload format is one of the profile.
+#[inline(always)]
 fn check_format(bytes: &[u8]) -> Result<(), Place>
     requires { IsRightTo (words_of bytes.now) 21 }
     ensures right { OnOk result (IsRightTo (words_of bytes.now) 27) }

@@ -78,19 +78,24 @@ pub fn push_hexadecimal(into: &mut Vec<u8>, word: u32)
     ensures length { vec_len into.new ≡ vec_len into.old + 8 }
     ensures capacity { vec_capacity into.old ≤ vec_capacity into.new }
 {
-    push_text(
-        into,
-        &[
-            glyph(bits_of(word, 28, 4)),
-            glyph(bits_of(word, 24, 4)),
-            glyph(bits_of(word, 20, 4)),
-            glyph(bits_of(word, 16, 4)),
-            glyph(bits_of(word, 12, 4)),
-            glyph(bits_of(word, 8, 4)),
-            glyph(bits_of(word, 4, 4)),
-            glyph(bits_of(word, 0, 4)),
-        ],
-    );
+    push_text(into, &hexadecimal_of(word));
+}
+
+/// A word in eight upper-case digits to the base 16.
+#[inline]
+pub fn hexadecimal_of(word: u32) -> [u8; 8]
+    ensures { result ≡ hexadecimal word }
+{
+    [
+        glyph(bits_of(word, 28, 4)),
+        glyph(bits_of(word, 24, 4)),
+        glyph(bits_of(word, 20, 4)),
+        glyph(bits_of(word, 16, 4)),
+        glyph(bits_of(word, 12, 4)),
+        glyph(bits_of(word, 8, 4)),
+        glyph(bits_of(word, 4, 4)),
+        glyph(bits_of(word, 0, 4)),
+    ]
 }
 
 /// Puts half a word behind the bytes, in four upper-case digits to the base 16.

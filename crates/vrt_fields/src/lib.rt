@@ -14,7 +14,10 @@ mod tests;
 mod text;
 mod values;
 
-pub use crate::digits::{fill_decimal, push_decimal, push_hexadecimal, push_padded, push_signed, push_text};
+pub use crate::digits::{
+    fill_decimal, hexadecimal_of, push_decimal, push_hexadecimal, push_padded, push_signed,
+    push_text,
+};
 pub use crate::field::Field;
 pub use crate::field_set::FieldSet;
 pub use crate::format::PayloadFormat;

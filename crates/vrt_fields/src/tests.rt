@@ -261,3 +261,12 @@ fn signs_stand_in_front_of_numbers(rt: HostRuntime) -> Result<(), NoMemory> {
     );
     Ok(())
 }
+
+#[test]
+fn digits_of_words_and_numbers_are_told(rt: HostRuntime) {
+    assert_eq!(rt; hexadecimal_of(0xABCD_EF01), *b"ABCDEF01");
+    let mut digits = [0; 20];
+    let start = fill_decimal(&mut digits, 1_200);
+    assert_eq!(rt; start, 16);
+    assert_eq!(rt; &digits[16..], b"1200".as_slice());
+}

@@ -1,5 +1,5 @@
 -- The frame stands whole in front.
-use Rattle.std.proofs.Common.{◌≤◌, List, length, take, sym, ap, subst, arith}
+use Rattle.std.proofs.Common.{◌≤◌, length, take, sym, subst, arith}
 use Rattle.replay_form.specs.FrameFields.{IsWholeFrame, frame_size}
 use Rattle.replay_form.proofs.TakingFrames.{frame_most, whole_in_front}
 use Rattle.replay_form.proofs.frame_field.whole_frame.Goals as goal
