@@ -4,6 +4,7 @@
 mod command_details;
 mod details;
 mod fields;
+mod line;
 mod lines;
 mod numeral;
 #[cfg(test)]
