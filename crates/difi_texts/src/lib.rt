@@ -4,7 +4,6 @@
 mod command_details;
 mod details;
 mod fields;
-mod line;
 mod lines;
 mod numeral;
 #[cfg(test)]

@@ -1,9 +1,8 @@
 ghost use Rattle.std.specs.Prelude.{◌≡◌, ◌≤◌, ◌+◌, ◌++◌, length};
 ghost use Rattle.difi_packet.specs.Packet.{value_of};
 ghost use Rattle.difi_texts.specs.Accounts.{accepted};
-ghost use Rattle.difi_texts.specs.Lines.{line, counts};
+ghost use Rattle.difi_texts.specs.Lines.{acceptance, line, outcome, counts};
 
-use crate::line::{FRONT, LINE, put_front, put_outcome};
 use crate::numeral::Numeral;
 use crate::text_buffer::TextBuffer;
 use difi_packet::{Packet, PacketKind, kind_and_stream};
@@ -42,10 +41,48 @@ pub fn push_line(out: &mut TextBuffer, number: &Numeral, judgement: Judgement)
     ensures text { out.new ≡ out.old ++ line number.now judgement }
     ensures length { length out.new ≤ length out.old + 64 }
 {
-    let mut line = [b'\n'; LINE];
-    let start = put_front(&mut line, number);
-    let count = put_outcome(&mut line[FRONT..], judgement);
-    out.push(&line[start..FRONT + count]);
+    out.push(b"frame ");
+    out.push(number.digits());
+    push_outcome(out, judgement);
+    out.push(b"\n");
+}
+
+// What a line says of a datagram.
+fn push_outcome(out: &mut TextBuffer, judgement: Judgement)
+    requires { length out.old + 37 ≤ 67584 }
+    ensures text { out.new ≡ out.old ++ outcome judgement }
+    ensures length { length out.new ≤ length out.old + 37 }
+{
+    match judgement {
+        Judgement::Accepted { kind, stream } => {
+            push_acceptance(out, kind);
+            out.push_hexadecimal(stream);
+        }
+        Judgement::Refused { word } => {
+            out.push(b" refused at word ");
+            out.push_decimal(u64::from(word));
+        }
+        Judgement::TooLarge => out.push(b" too large"),
+    }
+}
+
+// What a line says of an accepted packet in front of its stream.
+#[inline]
+fn push_acceptance(out: &mut TextBuffer, kind: PacketKind)
+    requires { length out.old + 19 ≤ 67584 }
+    ensures text { out.new ≡ out.old ++ acceptance kind }
+    ensures length { length out.new ≤ length out.old + 19 }
+{
+    match kind {
+        PacketKind::Data => out.push(b" ok data stream "),
+        PacketKind::Context => out.push(b" ok context stream "),
+        PacketKind::Version => out.push(b" ok version stream "),
+        PacketKind::Control => out.push(b" ok control stream "),
+        PacketKind::Cancel => out.push(b" ok cancel stream "),
+        PacketKind::AckV => out.push(b" ok ackv stream "),
+        PacketKind::AckX => out.push(b" ok ackx stream "),
+        PacketKind::AckS => out.push(b" ok acks stream "),
+    }
 }
 
 /// Puts the last line behind the text.

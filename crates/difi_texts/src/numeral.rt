@@ -22,7 +22,7 @@ impl Model for Numeral {
 }
 
 impl Numeral {
-    ghost use Rattle.std.specs.Prelude.{◌≡◌, ◌≤◌, ◌<◌, ◌+◌, ◌^◌, drop};
+    ghost use Rattle.std.specs.Prelude.{◌≡◌, ◌≤◌, ◌<◌, ◌+◌, ◌^◌, length};
     ghost use Rattle.std.specs.Fmt.{decimal};
 
     /// The number zero.
@@ -60,12 +60,12 @@ impl Numeral {
         self.number
     }
 
-    /// Its decimal digits, at the end of twenty places, and where they start.
+    /// Its decimal digits.
     #[inline]
-    pub fn places(&self) -> (&[u8; 20], usize)
-        ensures digits { drop result.1 result.0.now ≡ decimal self.now }
-        ensures within { result.1 ≤ 20 }
+    pub fn digits(&self) -> &[u8]
+        ensures digits { result.now ≡ decimal self.now }
+        ensures few { length result.now ≤ 20 }
     {
-        (&self.digits, self.start)
+        &self.digits[self.start..]
     }
 }

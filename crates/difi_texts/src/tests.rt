@@ -234,19 +234,12 @@ fn numeral(number: u8) -> Numeral {
     numeral
 }
 
-// Whether these are the digits of the number that comes so many behind zero.
-fn has_digits(number: u8, digits: &[u8]) -> bool {
-    let numeral = numeral(number);
-    let (places, start) = numeral.places();
-    &places[start..] == digits
-}
-
 #[test]
 fn a_number_keeps_its_digits(rt: HostRuntime) {
-    assert!(rt; has_digits(0, b"0"));
-    assert!(rt; has_digits(9, b"9"));
-    assert!(rt; has_digits(10, b"10"));
-    assert!(rt; has_digits(200, b"200"));
+    assert_eq!(rt; numeral(0).digits(), b"0".as_slice());
+    assert_eq!(rt; numeral(9).digits(), b"9".as_slice());
+    assert_eq!(rt; numeral(10).digits(), b"10".as_slice());
+    assert_eq!(rt; numeral(200).digits(), b"200".as_slice());
     assert_eq!(rt; numeral(201).number(), 201);
 }
 
