@@ -3,7 +3,7 @@ use crate::transfer::write_all;
 use difi_io::{Failed, Sink};
 use difi_packet::Packet;
 use difi_texts::{
-    Judgement, Listing, Numeral, TextBuffer, accepted, push_counts, push_line, push_under,
+    FrameWords, Judgement, Listing, TextBuffer, accepted, push_counts, push_line, push_under,
 };
 use replay_form::RecordHead;
 use std::alloc::Global;
@@ -16,7 +16,7 @@ pub(crate) struct Report {
     /// What is told.
     pub listing: Listing,
     /// How many frames were judged.
-    pub frames: Numeral,
+    pub frames: FrameWords,
     /// How many of them are packets.
     pub accepted: u64,
     /// The text that is to be written next.
@@ -42,7 +42,7 @@ impl Report {
     {
         Report {
             listing,
-            frames: Numeral::zero(),
+            frames: FrameWords::none(),
             accepted: 0,
             text,
             failed: false,
@@ -114,6 +114,7 @@ impl Report {
     }
 
     // Counts a frame, and puts its line behind the text.
+    #[inline(always)]
     fn note(&mut self, judgement: Judgement)
         requires fits { self.old.frames + 1 < 2 ^ 64 }
         requires counted { self.old.accepted ≤ self.old.frames }

@@ -10,6 +10,9 @@ use crate::packet::{decode, kind_in};
 use vrt_header::{Kind, Profile};
 use vrt_words::Place;
 
+/// The bytes of a context packet. Where so many are there, no word behind has to be looked for.
+const CONTEXT_BYTES: usize = 108;
+
 /// The kind and the stream identifier of the packet that a datagram is, for a caller that wants
 /// nothing else of it: what the packet holds is judged all the same, and not taken out.
 ///
@@ -22,7 +25,7 @@ pub fn classify(profile: Profile, bytes: &[u8]) -> Result<(PacketKind, u32), Pla
 {
     match kind_in(bytes) {
         Some(Kind::Data) => classify_data(profile, bytes),
-        Some(Kind::Context) => classify_context(profile, bytes),
+        Some(Kind::Context) if bytes.len() == CONTEXT_BYTES => classify_context(profile, bytes),
         _ => classify_other(profile, bytes),
     }
 }

@@ -1,4 +1,4 @@
-pub mod Numerals
+pub mod FrameWords
 pub mod Lines
 pub mod Prologue
 pub mod CommandDetails

@@ -4,13 +4,13 @@
 mod command_details;
 mod details;
 mod fields;
+mod frame_words;
 mod lines;
-mod numeral;
 #[cfg(test)]
 mod tests;
 mod text_buffer;
 
 pub use crate::details::push_under;
+pub use crate::frame_words::FrameWords;
 pub use crate::lines::{Judgement, Listing, accepted, push_counts, push_line};
-pub use crate::numeral::Numeral;
 pub use crate::text_buffer::TextBuffer;

@@ -1,9 +1,10 @@
-ghost use Rattle.std.specs.Prelude.{◌≡◌, ◌≤◌, ◌+◌, ◌++◌, length};
+ghost use Rattle.std.specs.Prelude.{◌≡◌, ◌≤◌, ◌+◌, ◌++◌, length, codes};
+ghost use Rattle.std.specs.Fmt.{decimal};
 ghost use Rattle.difi_packet.specs.Packet.{value_of};
 ghost use Rattle.difi_texts.specs.Accounts.{accepted};
 ghost use Rattle.difi_texts.specs.Lines.{acceptance, line, outcome, counts};
 
-use crate::numeral::Numeral;
+use crate::frame_words::FrameWords;
 use crate::text_buffer::TextBuffer;
 use difi_packet::{Packet, PacketKind, kind_and_stream};
 
@@ -36,33 +37,30 @@ pub fn accepted(packet: &Packet<'_>) -> Judgement
 }
 
 /// Puts the line of the frame with this number behind the text.
-pub fn push_line(out: &mut TextBuffer, number: &Numeral, judgement: Judgement)
+#[inline]
+pub fn push_line(out: &mut TextBuffer, number: &FrameWords, judgement: Judgement)
     requires { length out.old + 64 ≤ 67584 }
     ensures text { out.new ≡ out.old ++ line number.now judgement }
     ensures length { length out.new ≤ length out.old + 64 }
 {
-    out.push(b"frame ");
-    out.push(number.digits());
+    out.push(number.as_slice());
     push_outcome(out, judgement);
-    out.push(b"\n");
 }
 
-// What a line says of a datagram.
+// What a line says of a datagram, with the end of the line.
+#[inline]
 fn push_outcome(out: &mut TextBuffer, judgement: Judgement)
-    requires { length out.old + 37 ≤ 67584 }
-    ensures text { out.new ≡ out.old ++ outcome judgement }
-    ensures length { length out.new ≤ length out.old + 37 }
+    requires { length out.old + 38 ≤ 67584 }
+    ensures text { out.new ≡ out.old ++ outcome judgement ++ codes "\n" }
+    ensures length { length out.new ≤ length out.old + 38 }
 {
     match judgement {
         Judgement::Accepted { kind, stream } => {
             push_acceptance(out, kind);
-            out.push_hexadecimal(stream);
+            out.push_last_word(stream);
         }
-        Judgement::Refused { word } => {
-            out.push(b" refused at word ");
-            out.push_decimal(u64::from(word));
-        }
-        Judgement::TooLarge => out.push(b" too large"),
+        Judgement::Refused { word } => push_refusal(out, word),
+        Judgement::TooLarge => out.push(b" too large\n"),
     }
 }
 
@@ -83,6 +81,18 @@ fn push_acceptance(out: &mut TextBuffer, kind: PacketKind)
         PacketKind::AckX => out.push(b" ok ackx stream "),
         PacketKind::AckS => out.push(b" ok acks stream "),
     }
+}
+
+// What a line says of a datagram that is no packet, with the end of the line.
+#[inline(never)]
+fn push_refusal(out: &mut TextBuffer, word: u32)
+    requires { length out.old + 38 ≤ 67584 }
+    ensures text { out.new ≡ out.old ++ (codes " refused at word " ++ decimal word) ++ codes "\n" }
+    ensures length { length out.new ≤ length out.old + 38 }
+{
+    out.push(b" refused at word ");
+    out.push_decimal(u64::from(word));
+    out.push(b"\n");
 }
 
 /// Puts the last line behind the text.

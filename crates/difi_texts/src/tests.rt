@@ -225,22 +225,22 @@ fn an_answer_to_a_query_is_shown_with_its_fields(rt: HostRuntime) -> Result<(), 
     Ok(())
 }
 
-// The number that comes so many behind zero.
-fn numeral(number: u8) -> Numeral {
-    let mut numeral = Numeral::zero();
+// The words of the frame with this number.
+fn words(number: u8) -> FrameWords {
+    let mut words = FrameWords::none();
     for _ in 0..number {
-        numeral.step();
+        words.step();
     }
-    numeral
+    words
 }
 
 #[test]
-fn a_number_keeps_its_digits(rt: HostRuntime) {
-    assert_eq!(rt; numeral(0).digits(), b"0".as_slice());
-    assert_eq!(rt; numeral(9).digits(), b"9".as_slice());
-    assert_eq!(rt; numeral(10).digits(), b"10".as_slice());
-    assert_eq!(rt; numeral(200).digits(), b"200".as_slice());
-    assert_eq!(rt; numeral(201).number(), 201);
+fn frames_are_numbered_one_by_one(rt: HostRuntime) {
+    assert_eq!(rt; words(0).as_slice(), b"frame 0".as_slice());
+    assert_eq!(rt; words(9).as_slice(), b"frame 9".as_slice());
+    assert_eq!(rt; words(10).as_slice(), b"frame 10".as_slice());
+    assert_eq!(rt; words(200).as_slice(), b"frame 200".as_slice());
+    assert_eq!(rt; words(201).number(), 201);
 }
 
 #[test]
@@ -248,11 +248,11 @@ fn each_acknowledgement_has_its_line(rt: HostRuntime) -> Result<(), NoMemory> {
     let mut out = TextBuffer::open(rt.alloc())?;
     let stream = 1;
     let kind = PacketKind::AckV;
-    push_line(&mut out, &numeral(1), Judgement::Accepted { kind, stream });
+    push_line(&mut out, &words(1), Judgement::Accepted { kind, stream });
     let kind = PacketKind::AckX;
-    push_line(&mut out, &numeral(2), Judgement::Accepted { kind, stream });
+    push_line(&mut out, &words(2), Judgement::Accepted { kind, stream });
     let kind = PacketKind::AckS;
-    push_line(&mut out, &numeral(3), Judgement::Accepted { kind, stream });
+    push_line(&mut out, &words(3), Judgement::Accepted { kind, stream });
     let text =
         b"frame 1 ok ackv stream 00000001\nframe 2 ok ackx stream 00000001\nframe 3 ok acks stream 00000001\n";
     assert_eq!(rt; out.as_slice(), text.as_slice());
@@ -264,9 +264,9 @@ fn a_command_and_its_cancellation_have_their_lines(rt: HostRuntime) -> Result<()
     let mut out = TextBuffer::open(rt.alloc())?;
     let stream = 0xABCD_EF01;
     let kind = PacketKind::Control;
-    push_line(&mut out, &numeral(4), Judgement::Accepted { kind, stream });
+    push_line(&mut out, &words(4), Judgement::Accepted { kind, stream });
     let kind = PacketKind::Cancel;
-    push_line(&mut out, &numeral(5), Judgement::Accepted { kind, stream });
+    push_line(&mut out, &words(5), Judgement::Accepted { kind, stream });
     let text = b"frame 4 ok control stream ABCDEF01\nframe 5 ok cancel stream ABCDEF01\n";
     assert_eq!(rt; out.as_slice(), text.as_slice());
     Ok(())

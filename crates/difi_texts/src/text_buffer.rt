@@ -1,11 +1,13 @@
-ghost use Rattle.std.specs.Prelude.{◌≡◌, ◌≤◌, ◌<◌, ◌+◌, ◌++◌, ◌^◌, ◌↔◌, [], length, IsTrue, IfOk};
+ghost use Rattle.std.specs.Prelude.{◌≡◌, ◌≤◌, ◌<◌, ◌+◌, ◌++◌, ◌^◌, ◌↔◌, [], ◌∷◌, length, IsTrue, IfOk};
 ghost use Rattle.std.specs.Fmt.{decimal};
 ghost use Rattle.vrt_fields.specs.Field.{width_of};
 ghost use Rattle.vrt_fields.specs.Text.{field_text, hexadecimal, padded_decimal};
 
 use std::alloc::Global;
 use std::marker::Model;
-use vrt_fields::{Field, push_decimal, push_hexadecimal, push_padded, push_text, text_of};
+use vrt_fields::{
+    Field, hexadecimal_of, push_decimal, push_hexadecimal, push_padded, push_text, text_of,
+};
 use vrt_words::NoMemory;
 
 /// The bytes that a buffer has room for.
@@ -63,6 +65,7 @@ impl TextBuffer {
     }
 
     /// Puts a text behind the bytes.
+    #[inline]
     pub fn push(&mut self, text: &[u8])
         requires { length self.old + length text.now ≤ 67584 }
         ensures { self.new ≡ self.old ++ text.now }
@@ -94,6 +97,17 @@ impl TextBuffer {
         ensures { self.new ≡ self.old ++ hexadecimal word }
     {
         push_hexadecimal(&mut self.bytes, word);
+    }
+
+    /// Puts a word behind the bytes, in eight digits to the base 16, and the end of a line.
+    #[inline]
+    pub fn push_last_word(&mut self, word: u32)
+        requires { length self.old + 9 ≤ 67584 }
+        ensures text { self.new ≡ self.old ++ hexadecimal word ++ 10 ∷ [] }
+        ensures length { length self.new ≡ length self.old + 9 }
+    {
+        let [a, b, c, d, e, f, g, h] = hexadecimal_of(word);
+        self.push(&[a, b, c, d, e, f, g, h, b'\n']);
     }
 
     /// Puts the text of a field behind the bytes.
