@@ -1,7 +1,7 @@
 -- The word in front of the digits of a number, in one array.
-use Rattle.std.proofs.Common.{◌≡◌, ℕ, ◌+◌, ◌-◌, ◌≤◌, List, [], ◌++◌, length, take, drop, sym, ap, ◌∙◌, append_assoc, append-nil, length-append, arith}
+use Rattle.std.proofs.Common.{◌≡◌, ℕ, ◌+◌, ◌≤◌, List, [], ◌++◌, length, take, drop, ap, ◌∙◌, append-nil, length-append, arith}
 use Rattle.std.proofs.Math.Seq.{drop-append-add}
-use Rattle.std.proofs.lemmas.List.{drop-append-le, drop-drop, drop_all, drop_at, length-drop, length-take-le}
+use Rattle.std.proofs.lemmas.List.{drop-drop, drop_all, drop_at, length-drop, length-take-le}
 use borrow.Rule.Slice.PartMut.{put_mid}
 
 -- a part that is written, and what stands behind it

@@ -37,7 +37,7 @@ pub fn accepted(packet: &Packet<'_>) -> Judgement
 }
 
 /// Puts the line of the frame with this number behind the text.
-#[inline]
+#[inline(always)]
 pub fn push_line(out: &mut TextBuffer, number: &FrameWords, judgement: Judgement)
     requires { length out.old + 64 ≤ 67584 }
     ensures text { out.new ≡ out.old ++ line number.now judgement }
@@ -48,7 +48,7 @@ pub fn push_line(out: &mut TextBuffer, number: &FrameWords, judgement: Judgement
 }
 
 // What a line says of a datagram, with the end of the line.
-#[inline]
+#[inline(always)]
 fn push_outcome(out: &mut TextBuffer, judgement: Judgement)
     requires { length out.old + 38 ≤ 67584 }
     ensures text { out.new ≡ out.old ++ outcome judgement ++ codes "\n" }
@@ -65,7 +65,7 @@ fn push_outcome(out: &mut TextBuffer, judgement: Judgement)
 }
 
 // What a line says of an accepted packet in front of its stream.
-#[inline]
+#[inline(always)]
 fn push_acceptance(out: &mut TextBuffer, kind: PacketKind)
     requires { length out.old + 19 ≤ 67584 }
     ensures text { out.new ≡ out.old ++ acceptance kind }

@@ -22,6 +22,7 @@ impl PayloadFormat {
     /// no repeat, tags or fraction, the item size is from 4 to 16 bits, the packing size equals it,
     /// and the packing is link-efficient, or any at 8 and 16 bits. The second word is 0. `Err` gives
     /// the first word that is outside: 0, whatever the second is, or 1.
+    #[inline(always)]
     pub fn read(first: u32, second: u32) -> Result<PayloadFormat, Place>
         ensures found { IfOk result (λ format. IsFormat format first second) }
         ensures only { (format : PayloadFormat) → IsFormat format first second
@@ -40,6 +41,7 @@ impl PayloadFormat {
 }
 
 /// The format that the first word tells, where it is in the rule.
+#[inline(always)]
 fn format_of_first(first: u32) -> Option<PayloadFormat>
     ensures format { IfSome result (λ format. format ≡ format_of first) }
     ensures right { IfSome result (λ _. IsFormatFirst first) }
