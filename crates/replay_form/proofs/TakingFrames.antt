@@ -1,7 +1,7 @@
 -- How far a frame has come, by its bytes and by its fields.
 use Rattle.std.proofs.Common.{◌≡◌, ℕ, zero, suc, ◌+◌, ◌<◌, ◌≤◌, inl, inr, List, [], ◌∷◌, ◌++◌, length, take, drop, sym, ap, ◌∙◌, subst, below_more, append-nil, arith}
 use Rattle.std.proofs.lemmas.Bool.{cases_order}
-use Rattle.std.proofs.lemmas.List.{length-drop, length-take-le, take-take}
+use Rattle.std.proofs.lemmas.List.{length-drop, length-take-le, take-append-drop, take-take}
 use Rattle.vrt_time.specs.Time.{TimeStamp}
 use Rattle.replay_form.specs.Numbers.{number_at}
 use Rattle.replay_form.specs.NumberLaws.{number_at-append, number_at-take}
@@ -132,6 +132,21 @@ front_right last bytes there seconds picos clear short (suc (suc (suc (suc zero)
     record { there = omega arith; right = (let e = number_at-take 16 4 20 bytes (omega arith) in omega arith) }
 front_right last bytes there seconds picos clear short (suc (suc (suc (suc (suc i))))) h = absurd (omega arith)
 
+-- and what they are where the fields are right
+pub record AreFrontNumbers (last : TimeStamp) (bytes : List ℕ) : Type 0 where
+  pub seconds : last.seconds ≤ number_at 0 4 bytes
+  pub picos : ArePicos last (number_at 0 4 bytes) (number_at 4 8 bytes)
+  pub clear : number_at 14 2 bytes ≡ 0
+  pub short : number_at 16 4 bytes ≤ 65535
+
+pub front_told : (last : TimeStamp) (bytes : List ℕ) → AreFrameRight last bytes 5 → AreFrontNumbers last bytes
+front_told last bytes right = record {
+  seconds = (let e = number_at-take 0 4 4 bytes (omega arith) in omega (arith, (right 0 (omega arith)).right));
+  picos = rw (sym (number_at-take 0 4 12 bytes (omega arith)), sym (number_at-take 4 8 12 bytes (omega arith))) (right 1 (omega arith)).right;
+  clear = sym (number_at-take 14 2 16 bytes (omega arith)) ∙ (right 3 (omega arith)).right;
+  short = (let e = number_at-take 16 4 20 bytes (omega arith) in omega (arith, (right 4 (omega arith)).right));
+}
+
 -- they stand in the first 20 bytes
 front_of_take : (last : TimeStamp) (bytes : List ℕ) (n : ℕ) → 20 ≤ n → n ≤ length bytes → AreFrameRight last bytes 5 → AreFrameRight last (take n bytes) 5
 front_of_take last bytes n from to right zero h =
@@ -150,6 +165,23 @@ whole_in_front last bytes right there =
     let n = frame_size bytes in
     datagram_whole last (take n bytes) (front_of_take last bytes n (omega arith) there right)
     (length-take-le n bytes there ∙ ap (λ k. 20 + k) (sym (number_at-take 16 4 n bytes (omega arith))))
+
+-- a front that is a whole frame: its fields are right, and all of it is there
+pub record IsWholeInFront (last : TimeStamp) (bytes : List ℕ) : Type 0 where
+  pub there : 20 ≤ length bytes
+  pub right : AreFrameRight last bytes 5
+  pub all : frame_size bytes ≤ length bytes
+
+pub whole_told : (last : TimeStamp) (bytes : List ℕ) (n : ℕ) → n ≤ length bytes → IsWholeFrame last (take n bytes) → IsWholeInFront last bytes
+whole_told last bytes n few w =
+    let long = length-take-le n bytes few in
+    let front : 20 ≤ length (take n bytes) = (w.right 4 (omega arith)).there in
+    let size = number_at-take 16 4 n bytes (omega (arith, long, front)) in
+    record {
+      there = omega (arith, long, front);
+      right = subst (λ xs. AreFrameRight last xs 5) (take-append-drop n bytes) (frame_right-append last (take n bytes) (drop n bytes) 5 (λ i h. w.right i (omega arith)));
+      all = omega (arith, long, w.all, size);
+    }
 
 -- it is taken at once
 pub whole_at_once : (last : TimeStamp) (old piece new : List ℕ) (n size : ℕ) → length old ≡ 0 → new ≡ old ++ take n piece → n ≤ length piece

@@ -1,4 +1,4 @@
-ghost use Rattle.std.specs.Prelude.{◌≡◌, ◌+◌, ◌<◌, ◌≤◌, ◌^◌, ◌↔◌, IsTrue, length, take, IfOk, IfErr, IfSome};
+ghost use Rattle.std.specs.Prelude.{◌≡◌, ◌+◌, ◌<◌, ◌≤◌, ◌^◌, ◌↔◌, IsTrue, length, take, ℕ, IfOk, IfErr, IfSome, IfNone};
 ghost use Rattle.replay_form.specs.FrameFields.{AreFrameRight, IsWholeFrame, IsFrameRightIn, IsFrameWrongAt, IsFrameJudged, ArePicos, frame_offset, frame_end, frame_field, frame_size};
 ghost use Rattle.replay_form.specs.Numbers.{number_at};
 
@@ -81,8 +81,12 @@ pub(crate) fn whole_frame(last: Stamp, bytes: &[u8]) -> Option<usize>
     ensures few { IfSome result (λ size. size ≤ length bytes.now) }
     ensures most { IfSome result (λ size. size ≤ 65555) }
     ensures whole { IfSome result (λ size. IsWholeFrame last (take size bytes.now)) }
+    ensures none { IfNone result ((n : ℕ) → n ≤ length bytes.now → ¬ IsWholeFrame last (take n bytes.now)) }
 {
-    if bytes.len() < FRAME_HEAD || !is_front_right(last, bytes) {
+    if bytes.len() < FRAME_HEAD {
+        return None;
+    }
+    if !is_front_right(last, bytes) {
         return None;
     }
     let size = size_of_frame(bytes);
@@ -93,10 +97,16 @@ pub(crate) fn whole_frame(last: Stamp, bytes: &[u8]) -> Option<usize>
 #[inline]
 fn is_front_right(last: Stamp, bytes: &[u8]) -> bool
     requires { 20 ≤ length bytes.now }
-    ensures { IsTrue result → AreFrameRight last bytes.now 5 }
+    ensures { IsTrue result ↔ AreFrameRight last bytes.now 5 }
 {
     let seconds = u32_at(bytes, 0);
-    if seconds < last.seconds() || u16_at(bytes, 14) != 0 || u32_at(bytes, 16) > 65_535 {
+    if seconds < last.seconds() {
+        return false;
+    }
+    if u16_at(bytes, 14) != 0 {
+        return false;
+    }
+    if u32_at(bytes, 16) > 65_535 {
         return false;
     }
     are_picos(last, seconds, u64_at(bytes, 4))
