@@ -171,5 +171,3 @@ follows_end limits contexts packets state after calls taken none empty running e
 pub none_owed : (b : Bool) (xs : List Out) → (IsTrue b ↔ (xs ≢ [])) → b ≡ false → xs ≡ []
 none_owed b [] h e = refl
 none_owed b (x ∷ xs) h e = let on : b ≡ true = h.1 (λ f. absurd (cc)) in absurd (cc)
-
-module _ (c0 c1 c2 : Holding ContextRec) (p0 p1 p2 : Holding Buffer) (s0 s1 s2 : State) where
