@@ -1,4 +1,3 @@
-pub mod ClockLemmas
 pub mod SampleLemmas
 pub mod CutLemmas
 pub mod RunLemmas

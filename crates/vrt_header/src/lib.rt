@@ -2,6 +2,8 @@
 //! profile of a record allows them (IEEE-ISTO Std 4900-2021, after ANSI/VITA 49.2-2017, section 5.1).
 #![tactic(auto)]
 
+#[cfg(test)]
+mod edges;
 mod header;
 mod profile;
 mod prologue;
