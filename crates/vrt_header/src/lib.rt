@@ -5,6 +5,7 @@
 #[cfg(test)]
 mod edges;
 mod header;
+mod of_kind;
 mod profile;
 mod prologue;
 mod round_trip;
@@ -13,6 +14,7 @@ mod spelling;
 mod tests;
 
 pub use crate::header::{Header, Kind, kind_of};
+pub use crate::of_kind::{kind_in, read_prologue_of};
 pub use crate::profile::Profile;
 pub use crate::prologue::{Prologue, read_prologue};
 pub use crate::round_trip::one_to_one;
