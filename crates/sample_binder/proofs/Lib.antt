@@ -4,7 +4,6 @@ pub mod FirstLaws
 pub mod DueLaws
 pub mod OutputLaws
 pub mod PrefixLaws
-pub mod ClockLemmas
 pub mod SampleLemmas
 pub mod CutLemmas
 pub mod RunLemmas
