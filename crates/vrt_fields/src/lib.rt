@@ -6,6 +6,8 @@ mod digits;
 mod field;
 mod field_set;
 mod format;
+#[cfg(test)]
+mod format_tests;
 mod limit;
 mod round_trip;
 mod route;
