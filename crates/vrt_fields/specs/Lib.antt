@@ -1,5 +1,6 @@
 pub mod Field
 pub mod FieldLaws
+pub mod Limits
 pub mod Format
 pub mod FormatLaws
 pub mod FieldSet
