@@ -1,11 +1,6 @@
 pub mod Field
-pub mod FieldLaws
 pub mod Limits
 pub mod Format
-pub mod FormatLaws
 pub mod FieldSet
 pub mod Values
-pub mod FieldSetLaws
-pub mod MaskLaws
 pub mod Text
-pub mod TextLaws
