@@ -21,7 +21,7 @@ use Rattle.reorder_window.specs.State as window
 use Rattle.reorder_window.specs.State.{Holding, IsUndrained}
 use Rattle.reorder_window.specs.Window.{AreFalling, AreBelow, accepted, number_held, release, in_order, releases, answer}
 use Rattle.reorder_window.proofs.WindowLaws.{every-accepted, every-release}
-use Rattle.sample_binder.specs.declared.limits.Limits.{Limits}
+use Rattle.vrt_fields.specs.declared.limits.Limits.{Limits}
 use Rattle.sample_binder.specs.declared.pending.Pending.{Pending}
 use Rattle.sample_binder.specs.declared.turned.Turned.{Turned}
 use Rattle.sample_binder.specs.Arrivals.{released_list, releases_by, Takes}

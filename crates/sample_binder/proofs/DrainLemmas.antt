@@ -10,7 +10,7 @@ use Rattle.reorder_window.specs.State as window
 use Rattle.reorder_window.specs.State.{Holding}
 use Rattle.reorder_window.specs.Steps.{IsGiven}
 use Rattle.reorder_window.specs.Window.{AreFalling, accepted, held, releases}
-use Rattle.sample_binder.specs.declared.limits.Limits.{Limits}
+use Rattle.vrt_fields.specs.declared.limits.Limits.{Limits}
 use Rattle.sample_binder.specs.declared.out.Out.{Out}
 use Rattle.sample_binder.specs.Binder.{Follows, AreContextsSeen, ArePacketsSeen, left_events, end_events}
 use Rattle.sample_binder.specs.Calls.{Call, context_arrivals, data_arrivals, is_told, context_event, data_event, behind, all_releases}

@@ -4,12 +4,12 @@ ghost use Rattle.reorder_window.specs.Window.{answer};
 ghost use Rattle.sample_binder.specs.Calls.{Call, ContextCall, DataCall, EndCall, context_arrivals, data_arrivals, context_entry, data_entry, outputs_of, outcome};
 ghost use Rattle.sample_binder.specs.Queue.{owed};
 ghost use Rattle.sample_binder.specs.Given.{IsDataOf};
-ghost use Rattle.sample_binder.specs.Binder.{AreLimits, StandsFor, SameBinder, without_packet, without_release};
+ghost use Rattle.vrt_fields.specs.Limits.{AreLimits};
+ghost use Rattle.sample_binder.specs.Binder.{StandsFor, SameBinder, without_packet, without_release};
 
 use crate::arrive::{arrive_context, arrive_data};
 use crate::binding::Binding;
 use crate::drain::{advance, go_on};
-use crate::limits::Limits;
 use crate::out::Out;
 use crate::release::{give_context, give_data};
 use crate::turned::Turned;
@@ -17,6 +17,7 @@ use difi_context::ContextRec;
 use reorder_window::{HeldItem, Window};
 use std::alloc::Global;
 use std::marker::Model;
+use vrt_fields::Limits;
 use vrt_header::Profile;
 use vrt_words::{NoMemory, PacketBuf};
 

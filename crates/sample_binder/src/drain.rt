@@ -2,7 +2,7 @@ ghost use Rattle.std.specs.Prelude.{◌≡◌, ℕ, ◌+◌, ◌<◌, true, fals
 ghost use Rattle.vrt_words.specs.Buffer.{Buffer};
 ghost use Rattle.difi_context.specs.declared.context.ContextRec.{ContextRec};
 ghost use Rattle.reorder_window.specs.State.{Holding};
-ghost use Rattle.sample_binder.specs.declared.limits.Limits.{Limits};
+ghost use Rattle.vrt_fields.specs.declared.limits.Limits.{Limits};
 ghost use Rattle.sample_binder.specs.Calls.{Call};
 ghost use Rattle.sample_binder.specs.Queue.{owed};
 ghost use Rattle.sample_binder.specs.Binder.{AreContextsSeen, ArePacketsSeen, AreSeen, Follows};

@@ -3,7 +3,7 @@ ghost use Rattle.vrt_words.specs.Begins.{IsDatagram};
 ghost use Rattle.vrt_header.specs.Profile.{PacketProfile};
 ghost use Rattle.difi_data.specs.Data.{DataPacket, IsData};
 ghost use Rattle.sample_binder.specs.declared.label.Label.{Label};
-ghost use Rattle.sample_binder.specs.declared.limits.Limits.{Limits};
+ghost use Rattle.vrt_fields.specs.declared.limits.Limits.{Limits};
 ghost use Rattle.sample_binder.specs.declared.out.Out.{Out};
 ghost use Rattle.sample_binder.specs.Due.{due};
 ghost use Rattle.sample_binder.specs.Events.{Event};

@@ -15,7 +15,6 @@ mod harness;
 mod label;
 mod laws;
 mod leaving;
-mod limits;
 mod out;
 mod pending;
 #[cfg(test)]
@@ -36,8 +35,8 @@ mod turned;
 
 pub use crate::binder::Binder;
 pub use crate::laws::{data_packets_are_read, due_events_are_the_first, stretches_are_the_longest};
-pub use crate::limits::Limits;
 pub use crate::out::Out;
 pub use crate::reason::Reason;
 pub use crate::run::Run;
 pub use crate::turned::Turned;
+pub use vrt_fields::Limits;
