@@ -3,6 +3,8 @@
 #![tactic(auto)]
 
 mod decoding;
+#[cfg(test)]
+mod edge_tests;
 mod encoding;
 mod fields;
 mod front;
