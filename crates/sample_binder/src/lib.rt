@@ -8,6 +8,8 @@ mod clock;
 mod cut;
 mod decide;
 mod drain;
+#[cfg(test)]
+mod edges;
 mod front;
 mod give;
 #[cfg(test)]
