@@ -2,7 +2,7 @@
 use Rattle.std.proofs.Common.{Bool, true, false, None, ◌≡◌, ◌≢◌, ℕ, suc, ◌+◌, ◌-◌, ◌*◌, ◌<◌, ◌≤◌, List, [], ◌∷◌, ◌++◌, length, take, drop, get_or, min, refl, sym, ap, ◌∙◌, subst, length-drop, add-zero, take-append-drop, arith}
 use Rattle.std.proofs.lemmas.List.{length-take, length-take-le, get_or-drop, drop_more, drop-drop, take_all, nil_from_length}
 use Rattle.vrt_words.specs.Words.{words_of}
-use Rattle.vrt_words.specs.WordLaws.{length-words_of}
+use Rattle.vrt_words.proofs.WordLaws.{length-words_of}
 use Rattle.vrt_fields.specs.FieldSet.{IsFieldMask, number_in_mask}
 use Rattle.cam_field.specs.Spelling.{bit_of}
 use Rattle.command_prologue.specs.CommandPrologue.{IsAnswerSize}

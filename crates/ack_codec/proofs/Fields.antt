@@ -9,7 +9,7 @@ use Rattle.vrt_fields.specs.declared.field.Field.TheVariants.{ReferencePoint}
 use Rattle.vrt_fields.specs.Field.{fields_in_order}
 use Rattle.vrt_fields.specs.FieldSet.{bit_in}
 use Rattle.ack_codec.specs.Responses.{word_if, listed_with}
-use Rattle.ack_codec.specs.ResponseLaws.{length-word_if}
+use Rattle.ack_codec.proofs.ResponseLaws.{length-word_if}
 use Rattle.ack_codec.specs.Steps.{first_response, responses_in}
 
 -- one step, at the field with the number i

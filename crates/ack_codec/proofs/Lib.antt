@@ -1,2 +1,7 @@
+pub mod ResponseLaws
+pub mod ContentLaws
+pub mod GrowthLaws
+pub mod AckLaws
+pub mod SpellingLaws
 pub mod CutLemmas
 pub mod Fields

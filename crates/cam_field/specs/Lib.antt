@@ -1,5 +1,3 @@
 pub mod Cam
-pub mod CamLaws
 pub mod Ident
-pub mod PlainCam
 pub mod Spelling

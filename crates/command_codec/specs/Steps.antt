@@ -1,4 +1,4 @@
--- What a command's CIF0 may be behind a prologue; it serves the proofs of the refused place.
+-- What the first word behind the identities may be in a command and in a cancellation; it serves the proofs of the refused place.
 use Rattle.std.specs.Prelude.{◌≡◌, ◌≢◌, ◌⊎◌, ℕ, ◌+◌, Bool, true, false}
 use Rattle.vrt_fields.specs.FieldSet.{IsFieldMask, width_of_mask}
 use Rattle.cam_field.specs.declared.modes.Action.TheVariants as actions
@@ -16,3 +16,7 @@ pub record IsFollowed (front : CommandPrologue) (asked : ℕ) (holds : Bool) : T
   pub only : IsFieldMask asked
   pub values : holds ≡ true → command_words front + 1 + width_of_mask asked ≡ front.prologue.header.size
   pub query : holds ≡ false → (front.cam.action ≡ actions.None) × (asked ≢ 0) × (command_words front + 1 ≡ front.prologue.header.size)
+
+-- a cancellation's names fields
+abbrev pub IsNamed : CommandPrologue → ℕ → Type 0
+IsNamed front named = IsFieldMask named

@@ -5,7 +5,7 @@ ghost use Rattle.vrt_fields.specs.FieldSet.{IsFieldMask};
 ghost use Rattle.command_prologue.specs.CommandPrologue.{command_words};
 ghost use Rattle.command_codec.specs.declared.cancel.Cancel.{Cancel};
 ghost use Rattle.command_codec.specs.Cancel.{front_of, IsCancel};
-ghost use Rattle.command_codec.specs.CancelLaws.{IsNamed};
+ghost use Rattle.command_codec.specs.Steps.{IsNamed};
 ghost use Rattle.command_codec.specs.FirstWord.{IsCut};
 
 use crate::cancel::Cancel;

@@ -7,7 +7,7 @@ use Rattle.std.specs.Prelude.{Option, Some, None, IfSome}
 use Rattle.std.specs.Io.KnownBytes.{Consumes, IsAtEnd}
 use Rattle.difi_io.specs.Faults.{Rose}
 use Rattle.replay_form.specs.Record.{IsRecordWrongAt, EndsInside}
-use Rattle.replay_form.specs.RecordLaws.{record_wrong-append}
+use Rattle.replay_form.proofs.RecordLaws.{record_wrong-append}
 use Rattle.difi_cmd.specs.declared.status.Status.{Status}
 use Rattle.difi_cmd.specs.declared.status.Status.TheVariants.{Done, Usage, ReadFault, WriteFault, Memory, BadRecord, TooLong}
 use Rattle.difi_cmd.specs.declared.words.Line.{Line}

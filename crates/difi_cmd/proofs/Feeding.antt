@@ -5,9 +5,9 @@ use Rattle.std.proofs.lemmas.List.{length-take-le}
 use Rattle.replay_form.specs.HeadFields.{IsHeadPart, IsHeadWrongAt}
 use Rattle.replay_form.specs.FrameFields.{Frame, IsFrameWrongAt}
 use Rattle.replay_form.specs.Record.{IsRecordWrongAt}
-use Rattle.replay_form.specs.RecordLaws.{cut-append}
+use Rattle.replay_form.proofs.RecordLaws.{cut-append}
 use Rattle.replay_form.specs.Reading.{Reading, begun, IsBeginning, StandsWith, StandsFor, IsStep, IsNewFault, IsFailed, frames_after}
-use Rattle.replay_form.specs.ReadingLaws.{sound_stands, step_sound, not_both}
+use Rattle.replay_form.proofs.ReadingLaws.{sound_stands, step_sound, not_both}
 use Rattle.replay_form.specs.declared.event.RecordFault.{RecordFault}
 use Rattle.replay_form.specs.declared.event.Event.{Event}
 use Rattle.replay_form.specs.declared.event.Event.TheVariants as events

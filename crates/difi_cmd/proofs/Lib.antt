@@ -1,3 +1,5 @@
+pub mod TextLaws
+pub mod OneText
 pub mod Texts
 pub mod Feeding
 pub mod Outcomes

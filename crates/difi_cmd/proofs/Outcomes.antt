@@ -7,7 +7,7 @@ use Rattle.std.proofs.Math.Seq.{take-append-add}
 use Rattle.std.proofs.lemmas.List.{take-take, length-take-le, length-take}
 use Rattle.std.proofs.lemmas.Bool.{cases_order}
 use Rattle.replay_form.specs.Reading.{Reading, IsFresh}
-use Rattle.replay_form.specs.ReadingLaws.{fresh_stands}
+use Rattle.replay_form.proofs.ReadingLaws.{fresh_stands}
 use Rattle.difi_texts.specs.declared.lines.Listing.{Listing}
 use Rattle.difi_cmd.specs.declared.words.Line.{Line}
 use Rattle.difi_cmd.specs.declared.report.Report.{Report}

@@ -6,7 +6,8 @@ use Rattle.std.proofs.KnownBytes.{Appends-trans}
 use Rattle.std.proofs.Math.Seq.{take-append-add}
 use Rattle.std.proofs.lemmas.List.{take-append-le}
 use Rattle.std.proofs.lemmas.List.Sums.{sum_by-append}
-use Rattle.difi_io.specs.Faults.{HasCause, Rose-later}
+use Rattle.difi_io.specs.Faults.{HasCause}
+use Rattle.difi_io.proofs.FaultLaws.{Rose-later}
 use Rattle.replay_form.specs.FrameFields.{Frame}
 use Rattle.replay_form.specs.declared.record_head.RecordHead.{RecordHead}
 use Rattle.difi_texts.specs.declared.lines.Listing.{Listing}

@@ -1,7 +1,5 @@
 pub mod Status
 pub mod Text
-pub mod TextLaws
-pub mod OneText
 pub mod Progress
 pub mod LineOfWords
 pub mod Outcome

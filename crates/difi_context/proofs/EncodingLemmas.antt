@@ -3,12 +3,12 @@ use Rattle.std.proofs.Common.{◌≡◌, ℕ, ◌+◌, ◌*◌, ◌<◌, ◌≤�
 use Rattle.std.proofs.lemmas.List.{take_at, take_more_set, drop_more, take-append-drop, length-take-le}
 use Rattle.vrt_words.specs.Words.{words_of, AreWords, AreBytes}
 use Rattle.vrt_words.specs.Begins.{IsDatagram}
-use Rattle.vrt_words.specs.WordLaws.{AreWords-take, length-words_of, words_of-take, AreBytes-take, one_spelling}
+use Rattle.vrt_words.proofs.WordLaws.{AreWords-take, length-words_of, words_of-take, AreBytes-take, one_spelling}
 use Rattle.vrt_header.specs.Profile.{PacketProfile}
 use Rattle.vrt_header.specs.Header.{prologue_words}
 use Rattle.vrt_header.specs.Prologue.{IsPrologue}
-use Rattle.difi_context.specs.ContextLaws.{context_timed}
-use Rattle.difi_context.specs.SpellingLaws.{cif0_word}
+use Rattle.difi_context.proofs.ContextLaws.{context_timed}
+use Rattle.difi_context.proofs.SpellingLaws.{cif0_word}
 use Rattle.difi_context.specs.Context.{IsContext, cif0_of}
 use Rattle.difi_context.specs.declared.context.ContextRec.{ContextRec}
 

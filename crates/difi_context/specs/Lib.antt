@@ -1,4 +1,2 @@
 pub mod Context
 pub mod Steps
-pub mod ContextLaws
-pub mod SpellingLaws

@@ -1,4 +1,2 @@
 pub mod Data
 pub mod Sizes
-pub mod DataLaws
-pub mod SpellingLaws

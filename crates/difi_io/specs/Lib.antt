@@ -1,5 +1,4 @@
 pub mod Faults
-pub mod Moves
 pub mod Supply
 pub mod Store
 pub mod StoreFits

@@ -1,1 +1,2 @@
+pub mod PacketLaws
 pub mod OneSpelling

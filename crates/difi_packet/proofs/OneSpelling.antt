@@ -3,12 +3,12 @@ use Rattle.std.proofs.Common.{◌≡◌, ℕ, List}
 use Rattle.vrt_words.specs.Words.{AreBytes}
 use Rattle.vrt_words.specs.Begins.{IsDatagram}
 use Rattle.vrt_header.specs.Profile.{PacketProfile}
-use Rattle.difi_data.specs.SpellingLaws.{one_datagram as one_data_datagram}
-use Rattle.difi_context.specs.SpellingLaws.{one_datagram as one_context_datagram}
-use Rattle.difi_version.specs.SpellingLaws.{one_datagram as one_version_datagram}
-use Rattle.command_codec.specs.ControlLaws.{one_datagram as one_control_datagram}
-use Rattle.command_codec.specs.CancelLaws.{one_datagram as one_cancel_datagram}
-use Rattle.ack_codec.specs.SpellingLaws.{one_datagram as one_ack_datagram}
+use Rattle.difi_data.proofs.SpellingLaws.{one_datagram as one_data_datagram}
+use Rattle.difi_context.proofs.SpellingLaws.{one_datagram as one_context_datagram}
+use Rattle.difi_version.proofs.SpellingLaws.{one_datagram as one_version_datagram}
+use Rattle.command_codec.proofs.ControlLaws.{one_datagram as one_control_datagram}
+use Rattle.command_codec.proofs.CancelLaws.{one_datagram as one_cancel_datagram}
+use Rattle.ack_codec.proofs.SpellingLaws.{one_datagram as one_ack_datagram}
 use Rattle.difi_packet.specs.Packet.{PacketValue, DataValue, ContextValue, VersionValue, ControlValue, CancelValue, AckValue, IsPacket}
 
 pub one_datagram : (profile : PacketProfile) (value : PacketValue) (a b : List ℕ) → AreBytes a → AreBytes b

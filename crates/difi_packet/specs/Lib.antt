@@ -1,2 +1,1 @@
 pub mod Packet
-pub mod PacketLaws

@@ -1,4 +1,2 @@
 pub mod Version
 pub mod Steps
-pub mod VersionLaws
-pub mod SpellingLaws

@@ -4,7 +4,7 @@ use Rattle.std.proofs.lemmas.List.{take_at, drop_at, length-take-le}
 use Rattle.std.proofs.lemmas.Slice.{take-put_mid, drop-put_mid}
 use borrow.Rule.Slice.PartMut.{put_mid}
 use Rattle.vrt_words.specs.Words.{words_of}
-use Rattle.vrt_words.specs.WordLaws.{words_of-append, same_later}
+use Rattle.vrt_words.proofs.WordLaws.{words_of-append, same_later}
 use Rattle.vrt_time.specs.Time.{TimeStamp, stamp_of}
 use Rattle.sample_binder.specs.declared.run.Run.{Run}
 use Rattle.sample_binder.specs.declared.run.Run.TheVariants.{Bound, Uncertain, Raw}

@@ -1,3 +1,4 @@
+pub mod ReleaseLaws
 pub mod Told
 pub mod Sixteen
 pub mod Written

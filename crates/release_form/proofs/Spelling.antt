@@ -4,7 +4,7 @@ use Rattle.std.specs.List.{range_with_len}
 use Rattle.std.proofs.lemmas.List.{length-take-le, drop_more, take_at, drop_at, get_or-drop}
 use Rattle.std.proofs.Math.Seq.{take-add}
 use Rattle.vrt_words.specs.Words.{words_of, AreBytes}
-use Rattle.vrt_words.specs.WordLaws.{words_of-take, words_of-words, length-words_of, one_spelling, AreBytes-take}
+use Rattle.vrt_words.proofs.WordLaws.{words_of-take, words_of-words, length-words_of, one_spelling, AreBytes-take}
 use Rattle.vrt_time.specs.Time.{TimeStamp}
 use Rattle.sample_unpack.specs.Bits.{bits_of, bits_of_bytes, number_of}
 use Rattle.sample_unpack.proofs.Bits.{number_of-bits_of, length-bits_of, bits_of_bytes-cons, length-bits_of_bytes}

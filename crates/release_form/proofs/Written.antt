@@ -6,7 +6,7 @@ use Rattle.std.proofs.lemmas.List.{take_more}
 use Rattle.std.proofs.lemmas.List.Concat.{flat_map-append}
 use Rattle.release_form.specs.Front.{high_word, low_word, count_words}
 use Rattle.vrt_words.specs.Words.{words_of}
-use Rattle.vrt_words.specs.WordLaws.{words_of-take, length-words_of}
+use Rattle.vrt_words.proofs.WordLaws.{words_of-take, length-words_of}
 
 -- words that are written behind some
 pub next_words : (position : ℕ) (words rest old new : List ℕ) → 4 * (position + length words) ≤ length old

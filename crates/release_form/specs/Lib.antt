@@ -6,4 +6,3 @@ pub mod Sizes
 pub mod Release
 pub mod Steps
 pub mod Front
-pub mod ReleaseLaws

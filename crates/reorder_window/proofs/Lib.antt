@@ -1,3 +1,4 @@
+pub mod WindowLaws
 pub mod OrderLemmas
 pub mod WindowLemmas
 pub mod DeliveryLemmas

@@ -2,4 +2,3 @@ pub mod Window
 pub mod State
 pub mod Steps
 pub mod Delivery
-pub mod WindowLaws

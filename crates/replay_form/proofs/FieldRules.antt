@@ -1,6 +1,6 @@
 -- The rule of a field sees the bytes up to its end alone.
 use Rattle.std.proofs.Common.{ℕ, ◌+◌, ◌*◌, ◌-◌, Bool, true, false, List, sym, ◌∙◌, arith}
-use Rattle.replay_form.specs.NumberLaws.{number_at-take}
+use Rattle.replay_form.proofs.NumberLaws.{number_at-take}
 use Rattle.replay_form.specs.HeadFields.{IsRight, IsRightIn, route_at, port_at}
 use Rattle.replay_form.specs.declared.head_field.HeadField.{HeadField}
 use Rattle.replay_form.specs.declared.head_field.HeadField.TheVariants.{Magic, Cid, Tsi, MaxWords, DataWindow, ContextWindow, Kept, Pending, Routes, IdentityForm, Identity, Initial, Flag, Step, Least, Greatest, Stream, Number, Port, Zero}

@@ -1,7 +1,7 @@
 -- One field after another.
 use Rattle.std.proofs.Common.{◌≡◌, ℕ, ◌+◌, ◌≤◌, Bool, List, length, take, subst, below_more, arith}
 use Rattle.std.proofs.lemmas.List.{length-take-le}
-use Rattle.replay_form.specs.NumberLaws.{number_at-take}
+use Rattle.replay_form.proofs.NumberLaws.{number_at-take}
 use Rattle.replay_form.specs.FrameFields.{frame_end}
 use Rattle.replay_form.specs.declared.frame_field.FrameField.{FrameField}
 use Rattle.replay_form.specs.declared.frame_field.FrameField.TheVariants.{Seconds, Picos, Port, Zero, Length, Datagram}

@@ -1,5 +1,5 @@
 -- The bytes of a frame are one list, which is a frame.
-use Rattle.vrt_words.specs.WordLaws.{same_later}
+use Rattle.vrt_words.proofs.WordLaws.{same_later}
 use borrow.Rule.Slice.PartMut.{put_mid}
 use Rattle.std.proofs.Common.{◌≡◌, ℕ, zero, suc, ◌+◌, ◌-◌, ◌<◌, ◌≤◌, ◌^◌, List, ◌++◌, length, take, drop, refl, sym, ap, ◌∙◌, append_assoc, length-append, take-append-drop, lit<, arith}
 use Rattle.std.proofs.lemmas.List.{take_at, drop_at, drop-drop, length-take-le, length-drop}
@@ -8,7 +8,7 @@ use Rattle.byteorder.specs.Numbers.{length-bytes_high_first}
 use Rattle.vrt_time.specs.Time.{TimeStamp, IsStamp, moment_of}
 use Rattle.vrt_words.specs.Words.{AreBytes}
 use Rattle.replay_form.specs.Numbers.{number_at}
-use Rattle.replay_form.specs.NumberLaws.{number_at-take}
+use Rattle.replay_form.proofs.NumberLaws.{number_at-take}
 use Rattle.replay_form.specs.FrameFields.{Frame, IsFrame, AreFrameRight, frame_in}
 use Rattle.replay_form.specs.FrameSpelling.{IsFrameHead, frame_bytes}
 use Rattle.replay_form.proofs.Putting.{number_here, number_next, number_fits}

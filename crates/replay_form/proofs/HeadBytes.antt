@@ -8,7 +8,7 @@ use Rattle.std.specs.Prelude.{ℤ, pos, negsuc}
 use Rattle.byteorder.specs.Endian.{big_bytes, big_from}
 use Rattle.byteorder.specs.Numbers.{length-bytes_high_first}
 use Rattle.vrt_words.specs.Words.{AreBytes, AreWords}
-use Rattle.vrt_words.specs.WordLaws.{AreWords-append}
+use Rattle.vrt_words.proofs.WordLaws.{AreWords-append}
 use Rattle.vrt_fields.specs.declared.limit.Limit.{Limit}
 use Rattle.vrt_fields.specs.declared.route.Route.{Route}
 use Rattle.cam_field.specs.declared.ident.Ident.{Ident}
@@ -18,7 +18,7 @@ use Rattle.replay_form.specs.HeadSpelling.{IsHeadStart, IsLimitSpelled, AreLimit
 use Rattle.replay_form.specs.HeadValues.{AreHeadValues, IsBound, IsRoute}
 use Rattle.replay_form.specs.declared.record_head.RecordHead.{RecordHead}
 use Rattle.replay_form.specs.Numbers.{number_at, AreNumbers}
-use Rattle.replay_form.specs.NumberLaws.{number_at-drop, number_at-append}
+use Rattle.replay_form.proofs.NumberLaws.{number_at-drop, number_at-append}
 use Rattle.replay_form.proofs.Putting.{number_here, number_next, number_fits, AreBytes-append}
 
 -- a number behind other bytes
@@ -142,10 +142,6 @@ head_bytes_fit head =
 length-words : (head : RecordHead) → AreHeadValues head → length (head_words head) ≡ 32
 length-words head values =
     omega (arith, length-append (first_words head) (identity_words head.identity ++ head.initial), length-append (identity_words head.identity) head.initial, values.identity.four, values.initial.all)
-
-length-magic_words : (head : RecordHead) → AreHeadValues head → length (big_bytes 8 (magic_of head.form) ++ blocks (big_bytes 4) (head_words head)) ≡ 136
-length-magic_words head values =
-    omega (arith, length-blocks (big_bytes 4) 4 (head_words head) (length-bytes_high_first 4), length-words head values)
 
 pub length-head_bytes : (head : RecordHead) → AreHeadValues head → length (head_bytes head) ≡ size_of_head head
 length-head_bytes head values =

@@ -16,9 +16,9 @@ use Rattle.cam_field.specs.declared.ident.Ident.TheVariants as idents
 use Rattle.replay_form.specs.Numbers.{number_at, signed_at, AreNumbers}
 use Rattle.replay_form.specs.Head.{IsHead, IsSpelledHead, IsIdentity, form_number, limit_in, bounds_in, route_in, routes_in}
 use Rattle.replay_form.specs.HeadFields.{IsRightIn, IsGood, IsWholeHead, IsRouteCount, IsIdentityField, IsInitialWord, IsStep, IsLeast, IsGreatest, IsPort, is_second, first_magic, second_magic, route_at, port_at, route_size, route_fields, route_field, bound_field, first_fields, field_at}
-use Rattle.replay_form.specs.HeadLaws.{field_ends, field_behind, quotient, rest}
+use Rattle.replay_form.proofs.HeadLaws.{field_ends, field_behind, quotient, rest}
 use Rattle.replay_form.specs.HeadSpelling.{IsLimitSpelled, AreLimitsSpelled, IsSecondRoute, IsRouteSpelled, AreRoutesSpelled, identity_form, identity_words}
-use Rattle.replay_form.specs.HeadSpellingLaws.{length-routes_in, route_here, bound_there}
+use Rattle.replay_form.proofs.HeadSpellingLaws.{length-routes_in, route_here, bound_there}
 use Rattle.replay_form.specs.HeadValues.{AreHeadValues, IsBound, IsRoute, AreRoutes}
 use Rattle.replay_form.specs.declared.head_field.HeadField.TheVariants.{Magic, Initial, Stream}
 use Rattle.replay_form.specs.declared.record_head.RecordHead.{RecordHead}

@@ -11,9 +11,9 @@ use Rattle.vrt_fields.specs.declared.limit.Limit.{Limit}
 use Rattle.replay_form.specs.Numbers.{number_at, signed_at, AreNumbers}
 use Rattle.replay_form.specs.Head.{IsHead, IsSpelledHead, form_number, limit_in, ports_in, route_in}
 use Rattle.replay_form.specs.HeadFields.{IsRightIn, IsWholeHead, is_second, field_at, field_count, bound_field, route_at, port_at, route_fields, route_field, most_pending}
-use Rattle.replay_form.specs.HeadLaws.{whole_ranges, head_profile, route_good}
+use Rattle.replay_form.proofs.HeadLaws.{whole_ranges, head_profile, route_good}
 use Rattle.replay_form.specs.HeadSpelling.{IsLimitSpelled, identity_words}
-use Rattle.replay_form.specs.HeadSpellingLaws.{head_start, head_form, identity_spelled, limits_spelled, routes_spelled, bound_there, route_here, length-routes_in, number_below}
+use Rattle.replay_form.proofs.HeadSpellingLaws.{head_start, head_form, identity_spelled, limits_spelled, routes_spelled, bound_there, route_here, length-routes_in, number_below}
 use Rattle.replay_form.specs.HeadValues.{AreHeadValues, IsBound, IsRoute, AreRoutes}
 use Rattle.replay_form.specs.declared.head_field.HeadField.TheVariants.{Initial, Port, Stream}
 use Rattle.replay_form.specs.declared.record_head.RecordHead.{RecordHead}

@@ -1,3 +1,11 @@
+pub mod NumberLaws
+pub mod HeadLaws
+pub mod HeadSpellingLaws
+pub mod FrameLaws
+pub mod PrefixLaws
+pub mod RecordLaws
+pub mod ReadingLaws
+pub mod VerdictLaws
 pub mod Fields
 pub mod Taking
 pub mod TakingFrames

@@ -1,5 +1,5 @@
 -- A number that is written at its offset.
-use Rattle.vrt_words.specs.WordLaws.{same_later}
+use Rattle.vrt_words.proofs.WordLaws.{same_later}
 use borrow.Rule.Slice.PartMut.{put_mid}
 use Rattle.std.proofs.Common.{◌≡◌, ℕ, zero, suc, ◌+◌, ◌-◌, ◌*◌, ◌/◌, ◌<◌, ◌≤◌, ◌^◌, inl, inr, List, [], ◌∷◌, ◌++◌, length, take, drop, sym, ap, ◌∙◌, append_assoc, append-nil, length-append, take-add, arith}
 use Rattle.std.proofs.Math.Nat.{mod-lt, mul-le-mul_right, add-mul, mod-eq_of_lt}
@@ -11,7 +11,7 @@ use Rattle.byteorder.specs.Endian.{big_bytes, big_from}
 use Rattle.byteorder.specs.Numbers.{big_from-bytes, big_from-cons, big_from-take, big_from-lt, length-bytes_high_first}
 use Rattle.vrt_words.specs.Words.{AreBytes}
 use Rattle.replay_form.specs.Numbers.{number_at}
-use Rattle.replay_form.specs.NumberLaws.{number_at-drop}
+use Rattle.replay_form.proofs.NumberLaws.{number_at-drop}
 
 -- a digit and what is behind it
 digit_above : (x y r s p : ℕ) → r < p → x < y → x * p + r ≡ y * p + s → ⊥

@@ -4,8 +4,8 @@ use Rattle.std.proofs.lemmas.Bool.{cases_order}
 use Rattle.std.proofs.lemmas.List.{length-drop}
 use Rattle.replay_form.specs.Numbers.{number_at}
 use Rattle.replay_form.specs.HeadFields.{AreRight, IsHeadOpen, IsJudged, IsWholeHead, IsHeadWrongAt, is_second, field_count, head_size, route_size, most_routes}
-use Rattle.replay_form.specs.HeadLaws.{head_ranges, field_ends, last_ends}
-use Rattle.replay_form.specs.PrefixLaws.{right-append, among-append, wrong-append, size-append, count-append}
+use Rattle.replay_form.proofs.HeadLaws.{head_ranges, field_ends, last_ends}
+use Rattle.replay_form.proofs.PrefixLaws.{right-append, among-append, wrong-append, size-append, count-append}
 use Rattle.replay_form.specs.Taking.{IsHeadBegun, IsPartTaken, IsHeadWhole}
 
 -- what is open is short

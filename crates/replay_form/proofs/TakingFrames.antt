@@ -4,10 +4,10 @@ use Rattle.std.proofs.lemmas.Bool.{cases_order}
 use Rattle.std.proofs.lemmas.List.{length-drop, length-take-le, take-append-drop, take-take}
 use Rattle.vrt_time.specs.Time.{TimeStamp}
 use Rattle.replay_form.specs.Numbers.{number_at}
-use Rattle.replay_form.specs.NumberLaws.{number_at-append, number_at-take}
+use Rattle.replay_form.proofs.NumberLaws.{number_at-append, number_at-take}
 use Rattle.replay_form.specs.FrameFields.{ArePicos, AreFrameRight, IsFrameGood, IsFrameJudged, IsFramePart, IsFrameRightIn, IsFrameWrongAt, IsWholeFrame, frame_field, frame_end, frame_size}
 use Rattle.replay_form.specs.declared.frame_field.FrameField.TheVariants.{Seconds, Picos, Zero, Length}
-use Rattle.replay_form.specs.PrefixLaws.{frame_right-append, frame_wrong-append}
+use Rattle.replay_form.proofs.PrefixLaws.{frame_right-append, frame_wrong-append}
 use Rattle.replay_form.specs.Taking.{IsFrameBegun, IsFrameWhole}
 use Rattle.replay_form.proofs.Taking.{all_of_piece, two_parts}
 

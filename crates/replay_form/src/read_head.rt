@@ -2,7 +2,7 @@ ghost use Rattle.std.specs.Prelude.{◌≡◌, ◌+◌, ◌*◌, ◌<◌, ◌≤
 ghost use Rattle.vrt_header.specs.Profile.{profile_of};
 ghost use Rattle.replay_form.specs.Head.{IsHead, IsSpelledHead, IsIdentity, limits_in, limit_in, bounds_in, route_in, routes_in};
 ghost use Rattle.replay_form.specs.HeadFields.{IsWholeHead, is_second, route_at};
-ghost use Rattle.replay_form.specs.HeadLaws.{HeadRanges};
+ghost use Rattle.replay_form.specs.HeadRanges.{HeadRanges};
 ghost use Rattle.replay_form.specs.Numbers.{number_at};
 
 use crate::head_field::{start_of_port, start_of_route};

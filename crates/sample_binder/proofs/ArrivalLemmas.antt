@@ -45,10 +45,6 @@ module _ {T : Type 0} where
   unfolding accepted
   accepted-more size arrivals a = fold-append (with_arrival size) [] arrivals (a ∷ [])
 
-  pub accepted-nil : (size : ℕ) → accepted {T = T} size [] ≡ []
-  unfolding accepted
-  accepted-nil size = refl
-
   -- an arrival that is turned away
   abbrev pub IsTurned : Arrival T → Type 0
   IsTurned arrival.Kept = ⊥

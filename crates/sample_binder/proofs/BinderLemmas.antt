@@ -11,16 +11,16 @@ use Rattle.vrt_header.specs.Header.{is_size}
 use Rattle.vrt_header.specs.Prologue.{IsStamped}
 use Rattle.vrt_header.specs.declared.header.Kind.{Kind}
 use Rattle.vrt_header.specs.declared.header.Kind.TheVariants.{Data}
-use Rattle.difi_data.specs.DataLaws.{seven_words, data_timed}
+use Rattle.difi_data.proofs.DataLaws.{seven_words, data_timed}
 use Rattle.difi_context.specs.declared.context.ContextRec.{ContextRec}
 use Rattle.context_timeline.specs.declared.timed_context.TimedContext.{TimedContext}
 use Rattle.context_timeline.specs.Line.{Line, line_of, horizon_of, stamp_in}
-use Rattle.context_timeline.specs.LineLaws.{line_of-push, horizon_of-line_of}
+use Rattle.context_timeline.proofs.LineLaws.{line_of-push, horizon_of-line_of}
 use Rattle.reorder_window.specs.declared.entry.Entry.{Entry}
 use Rattle.reorder_window.specs.State as window
 use Rattle.reorder_window.specs.State.{Holding}
 use Rattle.reorder_window.specs.Window.{AreFalling, AreBelow, accepted, number_held, release, in_order, releases, answer}
-use Rattle.reorder_window.specs.WindowLaws.{every-accepted, every-release}
+use Rattle.reorder_window.proofs.WindowLaws.{every-accepted, every-release}
 use Rattle.sample_binder.specs.declared.limits.Limits.{Limits}
 use Rattle.sample_binder.specs.declared.pending.Pending.{Pending}
 use Rattle.sample_binder.specs.declared.turned.Turned.{Turned}

@@ -23,9 +23,6 @@ use Rattle.sample_binder.specs.Released.{released_context}
 use Rattle.sample_binder.proofs.ArrivalLemmas.{drained_first, none_left}
 use Rattle.sample_binder.proofs.BinderLemmas.{later_of, line_with, data_of}
 
-fewer_held : {T : Type 0} (old new : Holding T) (given : TimeStamp × ℕ × T) → IsGiven old.held old.last new.held new.last given → length new.held + 1 ≡ length old.held
-fewer_held old new given h = omega (arith, ap length h.taken, length-append new.held (h.least ∷ []))
-
 -- ---- contexts
 
 module _ (old new : Holding ContextRec) (line : Line) (given : TimeStamp × ℕ × ContextRec) (size : new.size ≡ old.size)
@@ -174,20 +171,3 @@ follows_end limits contexts packets state after calls taken none empty running e
 pub none_owed : (b : Bool) (xs : List Out) → (IsTrue b ↔ (xs ≢ [])) → b ≡ false → xs ≡ []
 none_owed b [] h e = refl
 none_owed b (x ∷ xs) h e = let on : b ≡ true = h.1 (λ f. absurd (cc)) in absurd (cc)
-
-pub drains-refl : (contexts : Holding ContextRec) (packets : Holding Buffer) (state : State) → Drains contexts packets state contexts packets state
-drains-refl contexts packets state = record { contexts_seen = λ kept given s. s; packets_seen = λ s. s; follows = λ limits calls taken h. h; context_size = refl; data_size = refl; pending = refl }
-
-module _ (c0 c1 c2 : Holding ContextRec) (p0 p1 p2 : Holding Buffer) (s0 s1 s2 : State) where
-  pub drains-trans : Drains c0 p0 s0 c1 p1 s1 → Drains c1 p1 s1 c2 p2 s2 → Drains c0 p0 s0 c2 p2 s2
-  drains-trans a b = record {
-    contexts_seen = λ kept given s. b.contexts_seen kept given (a.contexts_seen kept given s);
-    packets_seen = λ s. b.packets_seen (a.packets_seen s);
-    follows = λ limits calls taken h. b.follows limits calls taken (a.follows limits calls taken h);
-    context_size = b.context_size ∙ a.context_size;
-    data_size = b.data_size ∙ a.data_size;
-    pending = b.pending ∙ a.pending;
-  }
-
-pub may_drain : (c0 c1 : Holding ContextRec) (p0 p1 : Holding Buffer) (s0 s1 : State) → Drains c0 p0 s0 c1 p1 s1 → MayDrain c0 s0.line → MayDrain c1 s1.line
-may_drain c0 c1 p0 p1 s0 s1 d h = record { kept = h.kept; given = h.given; some = h.some; few = h.few; seen = d.contexts_seen h.kept h.given h.seen }

@@ -14,13 +14,13 @@ use Rattle.sample_binder.specs.declared.pending.Pending.{Pending}
 use Rattle.sample_binder.specs.declared.reason.Reason.{Reason}
 use Rattle.sample_binder.specs.declared.run.Run.{Run}
 use Rattle.sample_binder.specs.declared.shape.Shape.{Shape}
-use Rattle.sample_binder.specs.Cases.{tested}
+use Rattle.sample_binder.proofs.Cases.{tested}
 use Rattle.sample_binder.specs.Due.{may_leave, has_case, has_case_after, is_known, is_known_by}
-use Rattle.sample_binder.specs.DueLaws.{may_leave-none, may_leave-next}
+use Rattle.sample_binder.proofs.DueLaws.{may_leave-none, may_leave-next}
 use Rattle.sample_binder.specs.Events.{Event, packets_of, has_ended, line_after}
 use Rattle.sample_binder.specs.Left.{runs_left, runs_left_of, IsLeaving, leaving_bound, leaving_by}
 use Rattle.sample_binder.specs.Outputs.{open_reason, packet_and_runs, outputs}
-use Rattle.sample_binder.specs.OutputLaws.{first_of, more_wait}
+use Rattle.sample_binder.proofs.OutputLaws.{first_of, more_wait}
 use Rattle.sample_binder.specs.Queue.{State, owed, is_first_due, queue_owes, first_decided, StandsFor, IsState, AreSound}
 use Rattle.sample_binder.specs.Runs.{runs_bound, runs_by, runs_of, cut_from, run_at, label_at}
 use Rattle.sample_binder.specs.Samples.{size_in, number_of}
@@ -237,9 +237,6 @@ module _ (old : State) (limits : Limits) (events : List Event) (taken : ℕ) (h 
       }
 
 -- ---- what stays true of every queue
-
-pub IsState-run : (old : State) (rest : Option Leaving) → IsState old → IfSome rest (IsLeaving old.line (open_reason old.ended)) → IsState (with_leaving old rest)
-IsState-run old rest h leaves = record { room = h.room; sound = h.sound; shapes = h.shapes; leaving = leaves }
 
 pub IsState-packet : (old : State) (after : List Pending) (leaving : Option Leaving) (given : Out) → IsState old
     → GivesPacket old.pending old.line old.ended old.queue after leaving given → IsState (with_queue old after leaving)

@@ -9,13 +9,13 @@ use Rattle.vrt_time.specs.Time.{TimeStamp, stamp_of, fraction_of}
 use Rattle.vrt_header.specs.Profile.{PacketProfile}
 use Rattle.vrt_header.specs.Prologue.{IsStamped}
 use Rattle.difi_data.specs.Data.{DataPacket, IsData}
-use Rattle.difi_data.specs.DataLaws.{seven_words, data_timed}
-use Rattle.difi_data.specs.SpellingLaws.{payload_size}
+use Rattle.difi_data.proofs.DataLaws.{seven_words, data_timed}
+use Rattle.difi_data.proofs.SpellingLaws.{payload_size}
 use Rattle.sample_binder.specs.declared.label.Label.{Label}
 use Rattle.sample_binder.specs.declared.limits.Limits.{Limits}
 use Rattle.sample_binder.specs.Due.{first_below, first_from, may_leave, has_case_after, due}
 use Rattle.sample_binder.specs.Events.{Event}
-use Rattle.sample_binder.specs.FirstLaws.{IsFirst, first_below-first, first_below-is, first_below-none_passes}
+use Rattle.sample_binder.proofs.FirstLaws.{IsFirst, first_below-first, first_below-is, first_below-none_passes}
 use Rattle.sample_binder.specs.Readings.{IsSince, IsDueEvent, IsLongest, AreStretches, IsRead}
 use Rattle.sample_binder.specs.Runs.{same_label, label_number, label_detail, starts, or_all, next_start, cut_from, cut}
 use Rattle.sample_binder.specs.Stretches.{IsStretch}

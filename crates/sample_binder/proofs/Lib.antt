@@ -1,3 +1,9 @@
+pub mod Examples
+pub mod Cases
+pub mod FirstLaws
+pub mod DueLaws
+pub mod OutputLaws
+pub mod PrefixLaws
 pub mod ClockLemmas
 pub mod SampleLemmas
 pub mod CutLemmas

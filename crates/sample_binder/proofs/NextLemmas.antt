@@ -11,14 +11,14 @@ use Rattle.reorder_window.specs.State.{Holding}
 use Rattle.reorder_window.specs.Window.{accepted, number_held, releases}
 use Rattle.sample_binder.specs.declared.limits.Limits.{Limits}
 use Rattle.sample_binder.specs.declared.out.Out.{Out}
-use Rattle.sample_binder.specs.Cases.{tested}
+use Rattle.sample_binder.proofs.Cases.{tested}
 use Rattle.sample_binder.specs.Binder.{Bound, IsBound, Follows, AreContextsSeen, ArePacketsSeen, left_events, end_events}
 use Rattle.sample_binder.specs.Calls.{Call, EndCall, context_arrivals, data_arrivals, is_told, context_event, data_event, behind, all_releases, events_by, events_of, outputs_of}
 use Rattle.sample_binder.specs.Drained.{MayDrain}
 use Rattle.sample_binder.specs.Events.{Event, EndEvent}
-use Rattle.sample_binder.specs.OutputLaws.{first_of}
+use Rattle.sample_binder.proofs.OutputLaws.{first_of}
 use Rattle.sample_binder.specs.Outputs.{outputs}
-use Rattle.sample_binder.specs.PrefixLaws.{outputs-prefix}
+use Rattle.sample_binder.proofs.PrefixLaws.{outputs-prefix}
 use Rattle.sample_binder.specs.Queue.{State, owed}
 use Rattle.sample_binder.specs.Queue as queue
 use Rattle.sample_binder.proofs.BinderLemmas.{context_arrivals-append, data_arrivals-append, is_told-append, or_true, events_of-more}
@@ -28,9 +28,6 @@ use Rattle.sample_binder.proofs.BinderLemmas.{context_arrivals-append, data_arri
 pub told_contexts : (kept given : ℕ) (holding : Holding ContextRec) (line : Line) (told : Bool) → AreContextsSeen kept given holding line told → AreContextsSeen kept given holding line true
 told_contexts kept given holding line told s =
     record { arrivals = s.arrivals; drained = s.drained; stands = s.stands; undrained = λ e. absurd (cc); entries = s.entries; line_is = s.line_is; few = s.few }
-
-pub told_packets : (holding : Holding Buffer) (told : Bool) → ArePacketsSeen holding told → ArePacketsSeen holding true
-told_packets holding told s = record { arrivals = s.arrivals; drained = s.drained; stands = s.stands; undrained = λ e. absurd (cc); entries = s.entries }
 
 pub may_drain_now : (bound : Bound) → IsBound bound → MayDrain bound.contexts bound.state.line
 may_drain_now bound h = record {

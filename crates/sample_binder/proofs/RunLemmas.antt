@@ -11,7 +11,7 @@ use Rattle.sample_binder.specs.Runs.{same_label, label_number, label_detail, lab
 use Rattle.sample_binder.specs.Left.{runs_left, runs_left_of, rest_from, IsLeaving}
 use Rattle.sample_binder.specs.Sound.{HasSampling}
 use Rattle.sample_binder.specs.Stretches.{IsStretch}
-use Rattle.sample_binder.specs.FirstLaws.{first_below-is, first_below-none}
+use Rattle.sample_binder.proofs.FirstLaws.{first_below-is, first_below-none}
 
 -- ---- labels
 

@@ -2,7 +2,7 @@
 use Rattle.std.proofs.Common.{◌≡◌, ℕ, ◌*◌, ◌/◌, ◌%◌, ◌<◌, ◌==◌, ◌&&◌, nat_lt, Bool, true, false, cond, Option, Some, None, IfSome, IfNone, refl, sym, ap, ◌∙◌, inl, inr, arith}
 use Rattle.std.proofs.lemmas.Grind.{common_steps}
 use Rattle.std.proofs.lemmas.Bool.Decides.{nat_tests}
-use Rattle.sample_binder.specs.Cases.{tested}
+use Rattle.sample_binder.proofs.Cases.{tested}
 use Rattle.sample_unpack.specs.Count.{HoldsSamples}
 use Rattle.sample_binder.specs.declared.shape.Shape.{Shape}
 use Rattle.sample_binder.specs.Samples.{number_of, used_bits}

@@ -8,7 +8,7 @@ use Rattle.difi_context.specs.declared.context.ContextRec.{ContextRec}
 use Rattle.difi_context.specs.Context.{IsInGrammar}
 use Rattle.context_timeline.specs.declared.timed_context.TimedContext.{TimedContext}
 use Rattle.context_timeline.specs.Line.{Line, line_of, with_context}
-use Rattle.context_timeline.specs.LineLaws.{line_of-push}
+use Rattle.context_timeline.proofs.LineLaws.{line_of-push}
 use Rattle.sample_binder.specs.declared.label.Label.{Label}
 use Rattle.sample_binder.specs.declared.leaving.Leaving.{Leaving}
 use Rattle.sample_binder.specs.declared.leaving.Leaving.TheVariants as leaving
@@ -17,11 +17,11 @@ use Rattle.sample_binder.specs.declared.out.Out.TheVariants as out
 use Rattle.sample_binder.specs.declared.pending.Pending.{Pending}
 use Rattle.sample_binder.specs.declared.reason.Reason.{Reason}
 use Rattle.sample_binder.specs.Due.{may_leave, has_case, has_case_after, is_known}
-use Rattle.sample_binder.specs.DueLaws.{may_leave-more, may_leave-next}
+use Rattle.sample_binder.proofs.DueLaws.{may_leave-more, may_leave-next}
 use Rattle.sample_binder.specs.Events.{Event, ContextEvent, DataEvent, EndEvent, contexts_of, packets_of, has_ended, line_after}
 use Rattle.sample_binder.specs.Left.{runs_left, runs_left_of, IsLeaving}
 use Rattle.sample_binder.specs.Outputs.{open_reason, outputs}
-use Rattle.sample_binder.specs.OutputLaws.{first_of, more_wait, outputs-more, old_when, new_when, long}
+use Rattle.sample_binder.proofs.OutputLaws.{first_of, more_wait, outputs-more, old_when, new_when, long}
 use Rattle.sample_binder.specs.Queue.{State, owed, is_first_due, queue_owes, StandsFor, IsState, AreSound, IsShape}
 use Rattle.sample_binder.specs.Sound.{HasSampling}
 use Rattle.sample_binder.specs.Runs.{cut_from, starts, label_at, run_at, runs_of}
@@ -279,11 +279,6 @@ module _ (old : State) (state : IsState old) (nothing : owed old ≡ []) where
         shapes = record { each = slice_get-push old.queue packet (λ (p : Pending). IsShape p.shape) state.shapes.each s };
         leaving = state.leaving;
       }
-
-  pub IsState-end : IsState (after_end old)
-  IsState-end =
-      let calm = idle old state nothing in
-      record { room = state.room; sound = state.sound; shapes = state.shapes; leaving = no_leaving old.line (open_reason true) old.leaving calm.none_leaves }
 
 -- a context in the grammar has a rate and an item size within their ranges
 pub sampling_of : (rec : ContextRec) → IsInGrammar rec → HasSampling rec.fields

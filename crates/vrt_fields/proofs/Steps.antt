@@ -9,7 +9,7 @@ use Rattle.vrt_fields.specs.declared.field.Field.TheVariants.{ReferencePoint}
 use Rattle.vrt_fields.specs.Field.{bit_of, width_of, fields_in_order}
 use Rattle.vrt_fields.specs.FieldSet.{FieldValues, FitsField, bit_if, mask_with, words_if, words_with, bit_in}
 use Rattle.vrt_fields.specs.Values.{taken, first_value, values_in}
-use Rattle.vrt_fields.specs.FieldSetLaws.{AllFit, length-words_if, flag}
+use Rattle.vrt_fields.proofs.FieldSetLaws.{AllFit, length-words_if, flag}
 
 abbrev pub field_of_index : ℕ → Field
 field_of_index i = get_or fields_in_order i ReferencePoint

@@ -1,10 +1,5 @@
 pub mod Field
-pub mod FieldLaws
 pub mod Format
-pub mod FormatLaws
 pub mod FieldSet
 pub mod Values
-pub mod FieldSetLaws
-pub mod MaskLaws
 pub mod Text
-pub mod TextLaws

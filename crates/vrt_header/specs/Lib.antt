@@ -2,6 +2,4 @@ pub mod Profile
 pub mod Header
 pub mod Prologue
 pub mod Steps
-pub mod PrologueLaws
 pub mod Spelling
-pub mod SpellingLaws

@@ -1,3 +1,5 @@
+pub mod WordLaws
+pub mod BeginLaws
 pub mod WordLemmas
 pub mod BitLemmas
 pub mod RowLemmas

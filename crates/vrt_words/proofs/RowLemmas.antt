@@ -7,7 +7,7 @@ use Rattle.std.specs.List.{flat_map}
 use Rattle.byteorder.specs.Endian.{big_bytes, big_number, IsRead}
 use borrow.Rule.Slice.PartMut.{put_mid}
 use Rattle.vrt_words.specs.Words.{words_of, AreWords}
-use Rattle.vrt_words.specs.WordLaws.{length-words_of, words_of-append, words_of-take, words_of-drop, words_of-spelled, length-spelled}
+use Rattle.vrt_words.proofs.WordLaws.{length-words_of, words_of-append, words_of-take, words_of-drop, words_of-spelled, length-spelled}
 use Rattle.vrt_words.proofs.WordLemmas.{word_at-there}
 
 -- the words of bytes among which a row of words was written

@@ -1,5 +1,3 @@
 pub mod Words
 pub mod Begins
-pub mod WordLaws
-pub mod BeginLaws
 pub mod Buffer

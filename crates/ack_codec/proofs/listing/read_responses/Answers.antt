@@ -1,6 +1,6 @@
 use Rattle.std.proofs.Common.{ℕ, arith}
 use Rattle.std.proofs.lemmas.List.{length-take}
-use Rattle.vrt_words.specs.WordLaws.{length-words_of}
+use Rattle.vrt_words.proofs.WordLaws.{length-words_of}
 use Rattle.ack_codec.proofs.listing.read_responses.Goals as goal
 
 pub read_words-requires : goal.read_words-requires

@@ -4,7 +4,7 @@ use Rattle.std.proofs.lemmas.List.{take_all}
 use Rattle.vrt_fields.specs.Field.{fields_in_order}
 use Rattle.vrt_fields.specs.FieldSet.{bit_in, number_in_mask}
 use Rattle.ack_codec.specs.Responses.{listed_with}
-use Rattle.ack_codec.specs.ResponseLaws.{responses_read, listed_read}
+use Rattle.ack_codec.proofs.ResponseLaws.{responses_read, listed_read}
 use Rattle.ack_codec.proofs.Fields.{bits_next, responses_step, responses_whole}
 use Rattle.ack_codec.proofs.listing.spread.Goals as goal
 

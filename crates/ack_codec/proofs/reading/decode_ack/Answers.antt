@@ -3,7 +3,7 @@ use Rattle.std.proofs.lemmas.Result.{IfOk-weaker, IfErr-weaker}
 use Rattle.std.proofs.Common.{arith}
 use Rattle.vrt_words.specs.Begins.{IsDatagram, IsRefused}
 use Rattle.ack_codec.specs.Ack.{IsAck}
-use Rattle.ack_codec.specs.AckLaws.{right_ack, refused_in_its_front, refused_in_its_content, one_decoded}
+use Rattle.ack_codec.proofs.AckLaws.{right_ack, refused_in_its_front, refused_in_its_content, one_decoded}
 use Rattle.ack_codec.proofs.reading.decode_ack.Goals as goal
 
 pub returns-in-Ok-clause-found : goal.returns-in-Ok-clause-found

@@ -1,7 +1,7 @@
 -- CIF0 announces all the words behind it.
 use Rattle.std.proofs.Common.{◌∷◌, sym, ap, ◌∙◌, arith}
 use Rattle.vrt_words.specs.Words.{words_of}
-use Rattle.vrt_words.specs.WordLaws.{length-words_of}
+use Rattle.vrt_words.proofs.WordLaws.{length-words_of}
 use Rattle.vrt_fields.specs.FieldSet.{width_of_mask, words_of_set}
 use Rattle.ack_codec.proofs.CutLemmas.{cut_mask, cut_one, whole_one}
 use Rattle.ack_codec.proofs.reading.fields_at.Goals as goal

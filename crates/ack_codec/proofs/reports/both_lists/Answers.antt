@@ -1,7 +1,7 @@
 -- The masks announce all the words behind them, and the first leaves words that some second mask announces.
 use Rattle.std.proofs.Common.{◌≡◌, ◌+◌, ◌∷◌, ◌++◌, take, drop, sym, ap, ◌∙◌, arith}
 use Rattle.vrt_words.specs.Words.{words_of}
-use Rattle.vrt_words.specs.WordLaws.{length-words_of}
+use Rattle.vrt_words.proofs.WordLaws.{length-words_of}
 use Rattle.vrt_fields.specs.FieldSet.{number_in_mask}
 use Rattle.ack_codec.specs.Responses.{listed_words}
 use Rattle.ack_codec.proofs.CutLemmas.{cut_first, cut_second, cut_two, whole_two}

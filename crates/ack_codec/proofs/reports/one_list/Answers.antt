@@ -1,7 +1,7 @@
 -- The mask announces all the words behind it.
 use Rattle.std.proofs.Common.{◌∷◌, sym, ap, ◌∙◌, arith}
 use Rattle.vrt_words.specs.Words.{words_of}
-use Rattle.vrt_words.specs.WordLaws.{length-words_of}
+use Rattle.vrt_words.proofs.WordLaws.{length-words_of}
 use Rattle.vrt_fields.specs.FieldSet.{number_in_mask}
 use Rattle.ack_codec.specs.Responses.{listed_words}
 use Rattle.ack_codec.proofs.CutLemmas.{cut_mask, cut_one, whole_one}

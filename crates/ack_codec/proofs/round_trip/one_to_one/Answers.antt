@@ -1,7 +1,7 @@
 -- The laws of the definition.
 use Rattle.vrt_words.specs.Words.{words_of}
-use Rattle.ack_codec.specs.AckLaws.{one_ack}
-use Rattle.ack_codec.specs.SpellingLaws.{one_datagram}
+use Rattle.ack_codec.proofs.AckLaws.{one_ack}
+use Rattle.ack_codec.proofs.SpellingLaws.{one_datagram}
 use Rattle.ack_codec.proofs.round_trip.one_to_one.Goals as goal
 
 pub returns-clause-one_packet : goal.returns-clause-one_packet

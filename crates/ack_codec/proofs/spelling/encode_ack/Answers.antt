@@ -2,14 +2,14 @@
 use Rattle.std.proofs.Common.{◌≡◌, ◌≤◌, ◌*◌, ◌++◌, length, take, drop, sym, ap, ◌∙◌, subst, arith}
 use Rattle.std.proofs.lemmas.List.{length-take-le}
 use Rattle.vrt_words.specs.Words.{words_of}
-use Rattle.vrt_words.specs.WordLaws.{length-words_of, words_of-take, AreWords-take, AreBytes-take, same_later}
+use Rattle.vrt_words.proofs.WordLaws.{length-words_of, words_of-take, AreWords-take, AreBytes-take, same_later}
 use Rattle.cam_field.specs.declared.modes.Role.TheVariants as roles
 use Rattle.command_prologue.specs.CommandPrologue.{IsCommandPrologue, command_words}
-use Rattle.command_prologue.specs.SpellingLaws.{take_put}
+use Rattle.command_prologue.proofs.SpellingLaws.{take_put}
 use Rattle.command_prologue.specs.declared.prologue.CommandPrologue.{CommandPrologue}
 use Rattle.ack_codec.specs.Ack.{front_of}
 use Rattle.ack_codec.specs.Steps.{content_words}
-use Rattle.ack_codec.specs.SpellingLaws.{spelled, sizes, one_datagram, written}
+use Rattle.ack_codec.proofs.SpellingLaws.{spelled, sizes, one_datagram, written}
 use Rattle.ack_codec.proofs.spelling.encode_ack.Goals as goal
 
 pub write_command_prologue-start-requires-clause-spelled : goal.write_command_prologue-start-requires-clause-spelled

@@ -1,9 +1,9 @@
 -- CIF0 is written, and its fields behind it.
 use Rattle.std.proofs.Common.{◌≡◌, ◌+◌, ◌*◌, ◌++◌, ◌∷◌, [], take, drop, ap, ◌∙◌, arith}
 use Rattle.vrt_words.specs.Words.{words_of}
-use Rattle.vrt_words.specs.WordLaws.{length-words_of, same_later}
+use Rattle.vrt_words.proofs.WordLaws.{length-words_of, same_later}
 use Rattle.vrt_fields.specs.FieldSet.{mask_of, words_of_set}
-use Rattle.ack_codec.specs.SpellingLaws.{both_put}
+use Rattle.ack_codec.proofs.SpellingLaws.{both_put}
 use Rattle.ack_codec.proofs.spelling.put_fields.Goals as goal
 
 pub returns-clause-words : goal.returns-clause-words

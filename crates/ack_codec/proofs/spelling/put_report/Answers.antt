@@ -1,9 +1,9 @@
 -- The parts are written one after another.
 use Rattle.std.proofs.Common.{◌≡◌, ◌*◌, ◌≤◌, ◌++◌, length, take, drop, ap, ◌∙◌, length-append, append_assoc, arith}
 use Rattle.vrt_words.specs.Words.{words_of}
-use Rattle.vrt_words.specs.WordLaws.{length-words_of, same_later}
+use Rattle.vrt_words.proofs.WordLaws.{length-words_of, same_later}
 use Rattle.ack_codec.specs.Ack.{mask_words, response_words}
-use Rattle.ack_codec.specs.SpellingLaws.{both_put}
+use Rattle.ack_codec.proofs.SpellingLaws.{both_put}
 use Rattle.ack_codec.proofs.spelling.put_report.Goals as goal
 
 pub returns-clause-words : goal.returns-clause-words

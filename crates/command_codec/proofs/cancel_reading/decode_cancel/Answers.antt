@@ -5,12 +5,13 @@ use Rattle.vrt_words.specs.Words.{words_of}
 use Rattle.vrt_words.specs.Begins.{IsDatagram, IsRefused}
 use Rattle.cam_field.specs.declared.modes.Role.TheVariants as roles
 use Rattle.command_prologue.specs.CommandPrologue.{IsCommandPrologue, command_words}
-use Rattle.command_prologue.specs.CommandPrologueLaws.{content_left}
+use Rattle.command_prologue.proofs.CommandPrologueLaws.{content_left}
 use Rattle.command_prologue.specs.declared.prologue.CommandPrologue.{CommandPrologue}
 use Rattle.command_codec.specs.declared.cancel.Cancel.{Cancel}
 use Rattle.command_codec.specs.Cancel.{IsCancel}
-use Rattle.command_codec.specs.CancelLaws.{IsNamed, by_first, right_cancel, one_answer}
-use Rattle.command_codec.specs.FirstWordLaws.{refused_by_cut, refused_in_prologue}
+use Rattle.command_codec.specs.Steps.{IsNamed}
+use Rattle.command_codec.proofs.CancelLaws.{by_first, right_cancel, one_answer}
+use Rattle.command_codec.proofs.FirstWordLaws.{refused_by_cut, refused_in_prologue}
 use Rattle.command_codec.proofs.cancel_reading.decode_cancel.Goals as goal
 
 pub read_named-requires-clause-size : goal.read_named-requires-clause-size

@@ -3,7 +3,7 @@ use Rattle.std.proofs.Common.{◌≡◌, suc, [], ◌∷◌, drop, get_or, ap, s
 use Rattle.std.proofs.lemmas.List.{nil_from_length}
 use Rattle.std.proofs.Math.Seq.{drop-cons}
 use Rattle.vrt_words.specs.Words.{words_of}
-use Rattle.vrt_words.specs.WordLaws.{length-words_of}
+use Rattle.vrt_words.proofs.WordLaws.{length-words_of}
 use Rattle.vrt_fields.specs.FieldSet.{IsFieldMask}
 use Rattle.command_prologue.specs.CommandPrologue.{command_words}
 use Rattle.command_codec.proofs.cancel_reading.read_named.Goals as goal

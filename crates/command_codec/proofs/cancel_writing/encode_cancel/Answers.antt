@@ -1,13 +1,13 @@
 -- The prologue and CIF0 are the words of the cancellation.
 use Rattle.std.proofs.Common.{◌≡◌, ◌+◌, ◌*◌, ◌++◌, ◌∷◌, [], take, drop, sym, ap, ◌∙◌, subst, take-append-drop, arith}
 use Rattle.vrt_words.specs.Words.{words_of}
-use Rattle.vrt_words.specs.WordLaws.{length-words_of, AreWords-take, AreBytes-take, same_later}
+use Rattle.vrt_words.proofs.WordLaws.{length-words_of, AreWords-take, AreBytes-take, same_later}
 use Rattle.cam_field.specs.declared.modes.Role.TheVariants as roles
 use Rattle.command_prologue.specs.CommandPrologue.{IsCommandPrologue, command_words}
-use Rattle.command_prologue.specs.SpellingLaws.{take_put, datagram_in_front}
+use Rattle.command_prologue.proofs.SpellingLaws.{take_put, datagram_in_front}
 use Rattle.command_prologue.specs.declared.prologue.CommandPrologue.{CommandPrologue}
 use Rattle.command_codec.specs.Cancel.{front_of, IsCancel}
-use Rattle.command_codec.specs.CancelLaws.{cancel_size, one_datagram}
+use Rattle.command_codec.proofs.CancelLaws.{cancel_size, one_datagram}
 use Rattle.command_codec.proofs.cancel_writing.encode_cancel.Goals as goal
 
 pub write_command_prologue-at-requires-clause-spelled : goal.write_command_prologue-at-requires-clause-spelled

@@ -5,12 +5,12 @@ use Rattle.vrt_words.specs.Words.{words_of}
 use Rattle.vrt_words.specs.Begins.{IsDatagram, IsRefused}
 use Rattle.cam_field.specs.declared.modes.Role.TheVariants as roles
 use Rattle.command_prologue.specs.CommandPrologue.{IsCommandPrologue, command_words}
-use Rattle.command_prologue.specs.CommandPrologueLaws.{content_left}
+use Rattle.command_prologue.proofs.CommandPrologueLaws.{content_left}
 use Rattle.command_prologue.specs.declared.prologue.CommandPrologue.{CommandPrologue}
 use Rattle.command_codec.specs.declared.control.Control.{Control}
 use Rattle.command_codec.specs.Control.{IsContent, IsControl}
-use Rattle.command_codec.specs.ControlLaws.{by_first, right_control, one_answer}
-use Rattle.command_codec.specs.FirstWordLaws.{refused_by_cut, refused_in_prologue}
+use Rattle.command_codec.proofs.ControlLaws.{by_first, right_control, one_answer}
+use Rattle.command_codec.proofs.FirstWordLaws.{refused_by_cut, refused_in_prologue}
 use Rattle.command_codec.specs.Steps.{IsAsked}
 use Rattle.command_codec.proofs.control_reading.decode_control.Goals as goal
 

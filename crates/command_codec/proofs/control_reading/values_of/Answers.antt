@@ -2,7 +2,7 @@
 use Rattle.std.proofs.Common.{◌+◌, take, drop, ap, length-drop, ◌∙◌, arith}
 use Rattle.std.proofs.lemmas.List.{take_all, nil_from_length}
 use Rattle.vrt_words.specs.Words.{words_of}
-use Rattle.vrt_words.specs.WordLaws.{length-words_of}
+use Rattle.vrt_words.proofs.WordLaws.{length-words_of}
 use Rattle.vrt_fields.specs.FieldSet.{width_of_mask}
 use Rattle.command_prologue.specs.CommandPrologue.{command_words}
 use Rattle.command_codec.proofs.control_reading.values_of.Goals as goal

@@ -1,7 +1,7 @@
 -- The laws of the definitions.
 use Rattle.vrt_words.specs.Words.{words_of}
-use Rattle.command_codec.specs.CancelLaws as cancels
-use Rattle.command_codec.specs.ControlLaws as controls
+use Rattle.command_codec.proofs.CancelLaws as cancels
+use Rattle.command_codec.proofs.ControlLaws as controls
 use Rattle.command_codec.proofs.round_trip.one_to_one.Goals as goal
 
 pub returns-clause-one_control : goal.returns-clause-one_control

@@ -1,6 +1,6 @@
 -- The words of the identity are there.
 use Rattle.std.proofs.Common.{true, ap, arith}
-use Rattle.vrt_words.specs.WordLaws.{length-words_of}
+use Rattle.vrt_words.proofs.WordLaws.{length-words_of}
 use Rattle.cam_field.specs.Ident.{ident_size}
 use Rattle.command_prologue.proofs.identity.identity_at.Goals as goal
 

@@ -1,6 +1,6 @@
 -- The number of whole words, or the size.
 use Rattle.std.proofs.Common.{arith}
-use Rattle.vrt_words.specs.WordLaws.{length-words_of}
+use Rattle.vrt_words.proofs.WordLaws.{length-words_of}
 use Rattle.command_prologue.proofs.length.check_size.Goals as goal
 
 pub returns-clause-other : goal.returns-clause-other

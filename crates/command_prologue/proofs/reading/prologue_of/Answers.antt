@@ -4,7 +4,7 @@ use Rattle.vrt_words.specs.Words.{words_of}
 use Rattle.vrt_words.specs.Begins.{IsRefusedAt}
 use Rattle.vrt_header.specs.Header.{prologue_words}
 use Rattle.command_prologue.specs.CommandPrologue.{IsPrologueOf}
-use Rattle.command_prologue.specs.KindLaws.{prologue_of_kind, refused_of_kind}
+use Rattle.command_prologue.proofs.KindLaws.{prologue_of_kind, refused_of_kind}
 use Rattle.std.proofs.Common.{take}
 use Rattle.command_prologue.proofs.reading.prologue_of.Goals as goal
 

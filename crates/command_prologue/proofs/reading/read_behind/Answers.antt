@@ -8,7 +8,7 @@ use Rattle.vrt_header.specs.declared.prologue.Prologue.{Prologue}
 use Rattle.cam_field.specs.declared.cam.Cam.{Cam}
 use Rattle.command_prologue.specs.CommandPrologue.{IsMode, IsBehind, identity_words, command_words}
 use Rattle.command_prologue.specs.Steps.{AreNamed}
-use Rattle.command_prologue.specs.CommandPrologueLaws.{cut_at_end, cut_at_mode, cut_short, behind_read}
+use Rattle.command_prologue.proofs.CommandPrologueLaws.{cut_at_end, cut_at_mode, cut_short, behind_read}
 use Rattle.command_prologue.specs.declared.prologue.CommandPrologue.{CommandPrologue}
 use Rattle.command_prologue.proofs.reading.read_behind.Goals as goal
 

@@ -2,10 +2,10 @@
 use Rattle.std.proofs.Common.{◌≤◌, ℕ, length, take, sym, subst, arith}
 use Rattle.std.proofs.lemmas.Result.{IfOk-weaker, IfErr-weaker}
 use Rattle.vrt_words.specs.Words.{words_of}
-use Rattle.vrt_words.specs.WordLaws.{words_of-words}
+use Rattle.vrt_words.proofs.WordLaws.{words_of-words}
 use Rattle.vrt_words.specs.Begins.{IsRefusedAt}
 use Rattle.command_prologue.specs.CommandPrologue.{IsCommandPrologue, command_words}
-use Rattle.command_prologue.specs.CommandPrologueLaws.{whole_front, prologue_inside, refused_behind_prologue, none_behind_prologue, refused_in_prologue, one_answer}
+use Rattle.command_prologue.proofs.CommandPrologueLaws.{whole_front, prologue_inside, refused_behind_prologue, none_behind_prologue, refused_in_prologue, one_answer}
 use Rattle.command_prologue.specs.declared.prologue.CommandPrologue.{CommandPrologue}
 use Rattle.command_prologue.proofs.reading.read_command_prologue.Goals as goal
 

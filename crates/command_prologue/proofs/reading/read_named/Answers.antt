@@ -1,6 +1,6 @@
 -- All words that the mode word announces are there, or some are missing.
 use Rattle.std.proofs.Common.{arith}
-use Rattle.vrt_words.specs.WordLaws.{length-words_of}
+use Rattle.vrt_words.proofs.WordLaws.{length-words_of}
 use Rattle.command_prologue.proofs.reading.read_named.Goals as goal
 
 pub returns-then-bytes-at-clause-short : goal.returns-then-bytes-at-clause-short

@@ -1,6 +1,6 @@
 -- The laws of the definition.
-use Rattle.command_prologue.specs.CommandPrologueLaws.{one_command_prologue}
-use Rattle.command_prologue.specs.SpellingLaws.{one_words}
+use Rattle.command_prologue.proofs.CommandPrologueLaws.{one_command_prologue}
+use Rattle.command_prologue.proofs.SpellingLaws.{one_words}
 use Rattle.command_prologue.proofs.round_trip.one_to_one.Goals as goal
 
 pub returns-clause-one_prologue : goal.returns-clause-one_prologue

@@ -1,11 +1,11 @@
 -- The parts are written one after another, and are the words of the prologue.
 use Rattle.std.proofs.Common.{◌≡◌, ◌*◌, ◌++◌, ◌∷◌, [], take, drop, sym, ap, ◌∙◌, subst, arith}
 use Rattle.vrt_words.specs.Words.{words_of}
-use Rattle.vrt_words.specs.WordLaws.{length-words_of, AreWords-take, same_later}
+use Rattle.vrt_words.proofs.WordLaws.{length-words_of, AreWords-take, same_later}
 use Rattle.vrt_header.specs.Header.{prologue_words}
 use Rattle.cam_field.specs.Ident.{ident_words}
 use Rattle.command_prologue.specs.CommandPrologue.{IsCommandPrologue}
-use Rattle.command_prologue.specs.SpellingLaws.{take_put, row_of, row_words, named_sizes, one_words}
+use Rattle.command_prologue.proofs.SpellingLaws.{take_put, row_of, row_words, named_sizes, one_words}
 use Rattle.command_prologue.proofs.spelling.write_command_prologue.Goals as goal
 
 pub write_prologue-start-requires-clause-spelled : goal.write_prologue-start-requires-clause-spelled

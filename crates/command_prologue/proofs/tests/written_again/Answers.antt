@@ -1,7 +1,7 @@
 -- The words that were read spell the prologue.
 use Rattle.std.proofs.Common.{take, arith}
 use Rattle.vrt_words.specs.Words.{words_of}
-use Rattle.vrt_words.specs.WordLaws.{words_of-words, AreWords-take}
+use Rattle.vrt_words.proofs.WordLaws.{words_of-words, AreWords-take}
 use Rattle.command_prologue.specs.CommandPrologue.{command_words}
 use Rattle.command_prologue.proofs.tests.written_again.Goals as goal
 

@@ -1,4 +1,4 @@
-use Rattle.difi_cmd.specs.OneText.{one_part, one_output}
+use Rattle.difi_cmd.proofs.OneText.{one_part, one_output}
 use Rattle.difi_cmd.proofs.laws.bytes_have_one_text.Goals as goal
 
 pub returns : goal.returns

@@ -1,7 +1,7 @@
 use Rattle.std.proofs.Common.{◌≡◌, ◌++◌, ◌+◌, ℕ, List, min, length, take, refl, ap, ◌∙◌, subst, arith}
 use Rattle.std.specs.Prelude.{Option, Err}
 use Rattle.replay_form.specs.Reading.{Reading}
-use Rattle.difi_io.specs.Faults.{Rose-later}
+use Rattle.difi_io.proofs.FaultLaws.{Rose-later}
 use Rattle.difi_cmd.specs.declared.report.Report.{Report}
 use Rattle.difi_cmd.specs.Steps.{IsTold, IsAlong}
 use Rattle.difi_cmd.proofs.Outcomes.{begins, read_stopped, stopped, too_many, at_next, ended}

@@ -1,6 +1,6 @@
 use Rattle.std.proofs.Common.{rules}
 use Rattle.std.proofs.lemmas.List.{take_rest}
-use Rattle.difi_io.specs.Moves.{Appends-more}
+use Rattle.difi_io.proofs.Moves.{Appends-more}
 use Rattle.difi_cmd.proofs.transfer.write_all.Goals as goal
 
 pub loop-done-preserved : goal.loop-done-preserved

@@ -1,8 +1,8 @@
 -- The prologue's place is that of the context, and so is the place behind it; what is right is the one context.
 use Rattle.std.proofs.Common.{refl, ap, Ok, arith}
 use Rattle.vrt_words.specs.Words.{words_of}
-use Rattle.vrt_words.specs.WordLaws.{words_of-words}
-use Rattle.difi_context.specs.ContextLaws.{front_told, front_refused, behind_refused, behind_found, one_datagram}
+use Rattle.vrt_words.proofs.WordLaws.{words_of-words}
+use Rattle.difi_context.proofs.ContextLaws.{front_told, front_refused, behind_refused, behind_found, one_datagram}
 use Rattle.difi_context.proofs.context.decode.Goals as goal
 
 pub returns-in-Err-clause-only : goal.returns-in-Err-clause-only

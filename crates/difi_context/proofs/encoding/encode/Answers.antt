@@ -1,7 +1,7 @@
 -- The words written are those of the packet, and the bytes behind them stay.
 use Rattle.std.proofs.Common.{◌+◌, ◌*◌, ◌≤◌, ◌∙◌, take, length, arith}
 use Rattle.vrt_words.specs.Words.{words_of}
-use Rattle.vrt_words.specs.WordLaws.{AreWords-take, words_of-words, same_later}
+use Rattle.vrt_words.proofs.WordLaws.{AreWords-take, words_of-words, same_later}
 use Rattle.difi_context.proofs.EncodingLemmas.{encoded, datagram_in_front, same_in_front, most_words, count_fields}
 use Rattle.difi_context.proofs.encoding.encode.Goals as goal
 

@@ -1,6 +1,6 @@
 -- The laws of the definitions.
-use Rattle.difi_context.specs.ContextLaws as laws
-use Rattle.difi_context.specs.SpellingLaws.{one_datagram}
+use Rattle.difi_context.proofs.ContextLaws as laws
+use Rattle.difi_context.proofs.SpellingLaws.{one_datagram}
 use Rattle.difi_context.proofs.round_trip.one_to_one.Goals as goal
 
 pub returns-clause-one_packet : goal.returns-clause-one_packet

@@ -6,7 +6,7 @@ use Rattle.vrt_words.specs.Begins.{IsDatagram, IsRefused}
 use Rattle.vrt_header.specs.Prologue.{IsPrologue}
 use Rattle.vrt_header.specs.declared.prologue.Prologue.{Prologue}
 use Rattle.difi_data.specs.Data.{IsData, packet_of}
-use Rattle.difi_data.specs.DataLaws.{refused_in_front, refused_behind, prologue_front, right_data, one_answer}
+use Rattle.difi_data.proofs.DataLaws.{refused_in_front, refused_behind, prologue_front, right_data, one_answer}
 use Rattle.difi_data.proofs.packet.decode.Goals as goal
 
 pub returns-in-Ok-clause-found : goal.returns-in-Ok-clause-found

@@ -5,11 +5,11 @@ use Rattle.std.proofs.lemmas.Slice.{take-put_mid, drop-put_mid}
 use borrow.Rule.Slice.PartMut.{put_mid}
 use Rattle.vrt_words.specs.Words.{words_of}
 use Rattle.vrt_words.specs.Begins.{IsDatagram}
-use Rattle.vrt_words.specs.WordLaws.{AreWords-take}
+use Rattle.vrt_words.proofs.WordLaws.{AreWords-take}
 use Rattle.difi_data.specs.Data.{IsData, packet_of}
-use Rattle.difi_data.specs.DataLaws.{seven_words}
-use Rattle.vrt_words.specs.WordLaws.{AreBytes-take}
-use Rattle.difi_data.specs.SpellingLaws.{payload_size, row_datagram, one_datagram}
+use Rattle.difi_data.proofs.DataLaws.{seven_words}
+use Rattle.vrt_words.proofs.WordLaws.{AreBytes-take}
+use Rattle.difi_data.proofs.SpellingLaws.{payload_size, row_datagram, one_datagram}
 use Rattle.difi_data.proofs.packet.encode.Goals as goal
 
 pub write_prologue-requires-clause-spelled : goal.write_prologue-requires-clause-spelled

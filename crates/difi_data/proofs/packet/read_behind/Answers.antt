@@ -1,7 +1,7 @@
 -- The length of the datagram against that of its size.
 use Rattle.std.proofs.Common.{refl, arith}
 use Rattle.std.proofs.lemmas.List.{take_rest}
-use Rattle.vrt_words.specs.WordLaws.{length-words_of}
+use Rattle.vrt_words.proofs.WordLaws.{length-words_of}
 use Rattle.difi_data.proofs.packet.read_behind.Goals as goal
 
 pub returns-then-bytes-size-clause-refused : goal.returns-then-bytes-size-clause-refused

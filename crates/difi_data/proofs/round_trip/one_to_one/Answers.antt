@@ -1,7 +1,7 @@
 -- The words spell one packet, and a packet is spelled by one list of bytes.
 use Rattle.vrt_words.specs.Words.{words_of}
-use Rattle.difi_data.specs.DataLaws.{one_data}
-use Rattle.difi_data.specs.SpellingLaws.{one_datagram}
+use Rattle.difi_data.proofs.DataLaws.{one_data}
+use Rattle.difi_data.proofs.SpellingLaws.{one_datagram}
 use Rattle.difi_data.proofs.round_trip.one_to_one.Goals as goal
 
 pub returns-clause-one_packet : goal.returns-clause-one_packet

@@ -1,5 +1,5 @@
 -- The words spell one packet.
-use Rattle.difi_packet.specs.PacketLaws.{one_class}
+use Rattle.difi_packet.proofs.PacketLaws.{one_class}
 use Rattle.difi_packet.proofs.classifying.classify.Goals as goal
 
 pub returns-in-Some-Data-clause-only : goal.returns-in-Some-Data-clause-only

@@ -1,7 +1,7 @@
 -- The place is that of the kind.
 use Rattle.std.proofs.Common.{refl}
 use Rattle.difi_packet.specs.Packet.{DataValue}
-use Rattle.difi_packet.specs.PacketLaws.{data_place}
+use Rattle.difi_packet.proofs.PacketLaws.{data_place}
 use Rattle.difi_packet.proofs.classifying.classify_data.Goals as goal
 
 pub returns-in-Ok-clause-found : goal.returns-in-Ok-clause-found

@@ -1,5 +1,5 @@
 -- The words spell one packet, and those of no kind are refused at the first.
-use Rattle.difi_packet.specs.PacketLaws.{one_answer, no_kind}
+use Rattle.difi_packet.proofs.PacketLaws.{one_answer, no_kind}
 use Rattle.difi_packet.proofs.packet.decode.Goals as goal
 
 pub returns-in-Some-Data-clause-only : goal.returns-in-Some-Data-clause-only

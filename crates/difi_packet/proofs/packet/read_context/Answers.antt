@@ -1,5 +1,5 @@
 -- The place is that of the kind.
-use Rattle.difi_packet.specs.PacketLaws.{context_place}
+use Rattle.difi_packet.proofs.PacketLaws.{context_place}
 use Rattle.difi_packet.proofs.packet.read_context.Goals as goal
 
 pub returns-in-Err-clause-refused : goal.returns-in-Err-clause-refused

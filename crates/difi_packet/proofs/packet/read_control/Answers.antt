@@ -1,5 +1,5 @@
 -- The place is that of the kind.
-use Rattle.difi_packet.specs.PacketLaws.{control_place}
+use Rattle.difi_packet.proofs.PacketLaws.{control_place}
 use Rattle.difi_packet.proofs.packet.read_control.Goals as goal
 
 pub returns-in-Err-clause-refused : goal.returns-in-Err-clause-refused

@@ -1,6 +1,6 @@
 -- The words spell one packet, and a packet is spelled by one list of bytes.
 use Rattle.vrt_words.specs.Words.{words_of}
-use Rattle.difi_packet.specs.PacketLaws.{one_packet}
+use Rattle.difi_packet.proofs.PacketLaws.{one_packet}
 use Rattle.difi_packet.proofs.OneSpelling.{one_datagram}
 use Rattle.difi_packet.proofs.round_trip.one_to_one.Goals as goal
 

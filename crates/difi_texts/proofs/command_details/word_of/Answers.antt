@@ -1,4 +1,4 @@
-use Rattle.cam_field.specs.CamLaws.{spelled, word_fits}
+use Rattle.cam_field.proofs.CamLaws.{spelled, word_fits}
 use Rattle.cam_field.specs.Spelling.{word_of_cam}
 use Rattle.difi_texts.proofs.command_details.word_of.Goals as goal
 

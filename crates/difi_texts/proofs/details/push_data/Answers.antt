@@ -1,7 +1,7 @@
 use Rattle.std.proofs.Common.{◌≡◌, ◌++◌, ◌/◌, ℕ, List, length, ap, ◌∙◌, codes, arith}
 use Rattle.std.specs.Fmt.{decimal}
 use Rattle.vrt_words.specs.Words.{words_of}
-use Rattle.vrt_words.specs.WordLaws.{length-words_of}
+use Rattle.vrt_words.proofs.WordLaws.{length-words_of}
 use Rattle.difi_texts.specs.Prologue.{indented, common}
 use Rattle.difi_texts.proofs.Texts.{three_behind}
 use Rattle.difi_texts.proofs.details.push_data.Goals as goal

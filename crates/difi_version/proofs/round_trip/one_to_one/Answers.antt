@@ -1,7 +1,7 @@
 -- The words spell one packet, and a packet is spelled by one list of bytes.
 use Rattle.vrt_words.specs.Words.{words_of}
-use Rattle.difi_version.specs.VersionLaws.{one_version}
-use Rattle.difi_version.specs.SpellingLaws.{one_datagram}
+use Rattle.difi_version.proofs.VersionLaws.{one_version}
+use Rattle.difi_version.proofs.SpellingLaws.{one_datagram}
 use Rattle.difi_version.proofs.round_trip.one_to_one.Goals as goal
 
 pub returns-clause-one_packet : goal.returns-clause-one_packet

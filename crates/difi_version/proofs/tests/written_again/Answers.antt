@@ -1,7 +1,7 @@
 -- The words that were read spell the packet.
 use Rattle.std.proofs.Common.{arith}
 use Rattle.vrt_words.specs.Words.{words_of}
-use Rattle.vrt_words.specs.WordLaws.{words_of-words}
+use Rattle.vrt_words.proofs.WordLaws.{words_of-words}
 use Rattle.difi_version.proofs.tests.written_again.Goals as goal
 
 pub encode-requires-clause-spelled : goal.encode-requires-clause-spelled

@@ -4,7 +4,7 @@ use Rattle.std.proofs.lemmas.Result.{IfOk-weaker, IfErr-weaker}
 use Rattle.vrt_words.specs.Words.{words_of}
 use Rattle.vrt_words.specs.Begins.{IsDatagram, IsRefused}
 use Rattle.difi_version.specs.Version.{IsVersion}
-use Rattle.difi_version.specs.VersionLaws.{refused_in_front, refused_behind, prologue_front, right_version, one_answer}
+use Rattle.difi_version.proofs.VersionLaws.{refused_in_front, refused_behind, prologue_front, right_version, one_answer}
 use Rattle.difi_version.proofs.version.decode.Goals as goal
 
 pub returns-in-Ok-clause-found : goal.returns-in-Ok-clause-found

@@ -2,11 +2,11 @@
 use Rattle.std.proofs.Common.{◌≡◌, ◌+◌, ◌*◌, ◌%◌, ◌∷◌, ◌++◌, [], ◌∙◌, ap, sym, subst, take, drop, get_or, arith}
 use Rattle.std.proofs.lemmas.List.{drop-drop}
 use Rattle.vrt_words.specs.Words.{words_of}
-use Rattle.vrt_words.specs.WordLaws.{AreWords-take}
+use Rattle.vrt_words.proofs.WordLaws.{AreWords-take}
 use Rattle.difi_version.specs.Version.{IsVersion}
-use Rattle.difi_version.specs.VersionLaws.{seven_words}
-use Rattle.vrt_words.specs.WordLaws.{AreBytes-take}
-use Rattle.difi_version.specs.SpellingLaws.{spelled, cif0_word, replaced, datagram, one_datagram}
+use Rattle.difi_version.proofs.VersionLaws.{seven_words}
+use Rattle.vrt_words.proofs.WordLaws.{AreBytes-take}
+use Rattle.difi_version.proofs.SpellingLaws.{spelled, cif0_word, replaced, datagram, one_datagram}
 use Rattle.difi_version.proofs.version.encode.Goals as goal
 
 pub write_prologue-requires-clause-spelled : goal.write_prologue-requires-clause-spelled

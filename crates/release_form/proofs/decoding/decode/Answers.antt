@@ -3,7 +3,7 @@ use Rattle.std.proofs.Common.{sym, ap, subst, ◌≡◌, ◌∙◌, ℕ, List, l
 use Rattle.std.proofs.lemmas.List.{take_rest}
 use Rattle.release_form.specs.Layout.{front_of}
 use Rattle.release_form.specs.Release.{StandsFirst, IsPartOf, as_read}
-use Rattle.release_form.specs.ReleaseLaws.{read_first, none_first}
+use Rattle.release_form.proofs.ReleaseLaws.{read_first, none_first}
 use Rattle.release_form.specs.declared.shown.Shown.{Shown}
 use Rattle.release_form.proofs.Told.{if_none}
 use Rattle.release_form.proofs.decoding.decode.Goals as goal

@@ -1,6 +1,6 @@
 use Rattle.std.proofs.Common.{◌≡◌, arith, rules}
 use Rattle.release_form.specs.Positions.{word}
-use Rattle.release_form.specs.ReleaseLaws.{first_found}
+use Rattle.release_form.proofs.ReleaseLaws.{first_found}
 use Rattle.release_form.proofs.decoding.first_record.Goals as goal
 
 pub returns-clause-found : goal.returns-clause-found

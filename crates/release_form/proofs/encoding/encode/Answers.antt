@@ -2,8 +2,8 @@
 use Rattle.std.proofs.Common.{◌≡◌, ◌-◌, ◌≤◌, length, drop, refl, ap, sym, ◌∙◌, arith}
 use Rattle.std.proofs.lemmas.Grind.{common_steps}
 use Rattle.release_form.specs.Sizes.{part_size}
-use Rattle.release_form.specs.ReleaseLaws.{front_least}
-use Rattle.vrt_words.specs.WordLaws.{AreBytes-take}
+use Rattle.release_form.proofs.ReleaseLaws.{front_least}
+use Rattle.vrt_words.proofs.WordLaws.{AreBytes-take}
 use Rattle.release_form.proofs.Spelling.{one_record}
 use Rattle.release_form.proofs.Laid.{record_written, behind_written}
 use Rattle.release_form.proofs.encoding.encode.Goals as goal

@@ -1,6 +1,6 @@
 use Rattle.std.proofs.Common.{◌∙◌, arith}
 use Rattle.release_form.specs.Layout.{front_of_run}
-use Rattle.release_form.specs.ReleaseLaws.{run_front_least}
+use Rattle.release_form.proofs.ReleaseLaws.{run_front_least}
 use Rattle.release_form.proofs.front.put_front.Goals as goal
 
 pub returns-in-Run-clause-behind : goal.returns-in-Run-clause-behind

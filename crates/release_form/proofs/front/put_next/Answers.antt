@@ -1,5 +1,5 @@
 use Rattle.std.proofs.Common.{◌+◌, ◌*◌, length}
-use Rattle.vrt_words.specs.WordLaws.{same_later}
+use Rattle.vrt_words.proofs.WordLaws.{same_later}
 use Rattle.release_form.proofs.Written.{next_words}
 use Rattle.release_form.proofs.front.put_next.Goals as goal
 

@@ -1,4 +1,4 @@
-use Rattle.release_form.specs.ReleaseLaws.{one_place}
+use Rattle.release_form.proofs.ReleaseLaws.{one_place}
 use Rattle.release_form.proofs.Spelling.{one_record}
 use Rattle.release_form.proofs.Sixteen.{samples_again}
 use Rattle.release_form.proofs.round_trip.one_to_one.Goals as goal

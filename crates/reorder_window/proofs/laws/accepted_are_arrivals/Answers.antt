@@ -1,5 +1,5 @@
 use Rattle.std.proofs.Common.{IsTrue}
-use Rattle.reorder_window.specs.WindowLaws.{every-accepted}
+use Rattle.reorder_window.proofs.WindowLaws.{every-accepted}
 use Rattle.reorder_window.proofs.WindowLemmas.{accepted-falling}
 use Rattle.reorder_window.proofs.laws.accepted_are_arrivals.Goals as goal
 

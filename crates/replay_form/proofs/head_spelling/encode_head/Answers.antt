@@ -4,7 +4,7 @@ use Rattle.replay_form.specs.Numbers.{AreNumbers}
 use Rattle.replay_form.specs.Head.{IsHead}
 use Rattle.replay_form.specs.HeadFields.{is_second, route_size}
 use Rattle.replay_form.specs.HeadSpelling.{AreRoutesSpelled}
-use Rattle.replay_form.specs.HeadSpellingLaws.{head_start, head_form, identity_spelled, limits_spelled, routes_spelled, few_routes, size_told}
+use Rattle.replay_form.proofs.HeadSpellingLaws.{head_start, head_form, identity_spelled, limits_spelled, routes_spelled, few_routes, size_told}
 use Rattle.replay_form.proofs.HeadSaid.{spelled_by_values}
 use Rattle.replay_form.proofs.head_spelling.encode_head.Goals as goal
 

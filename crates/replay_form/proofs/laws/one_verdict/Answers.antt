@@ -1,5 +1,5 @@
 -- The laws of the definitions.
-use Rattle.replay_form.specs.VerdictLaws as laws
+use Rattle.replay_form.proofs.VerdictLaws as laws
 use Rattle.replay_form.proofs.laws.one_verdict.Goals as goal
 
 pub returns-clause-one_record : goal.returns-clause-one_record

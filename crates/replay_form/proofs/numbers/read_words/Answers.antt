@@ -1,6 +1,6 @@
 -- Each word is the number at its place.
 use Rattle.std.proofs.Common.{◌≡◌, ◌<◌, ◌*◌, ◌∙◌, length, arith}
-use Rattle.replay_form.specs.NumberLaws.{number_at-between}
+use Rattle.replay_form.proofs.NumberLaws.{number_at-between}
 use Rattle.replay_form.proofs.numbers.read_words.Goals as goal
 
 pub returns : goal.returns

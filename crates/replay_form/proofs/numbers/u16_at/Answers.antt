@@ -2,7 +2,7 @@
 use Rattle.std.proofs.Common.{ap, ◌∙◌}
 use Rattle.std.proofs.lemmas.List.{take_rest}
 use Rattle.byteorder.specs.Endian.{big_from}
-use Rattle.replay_form.specs.NumberLaws.{number_at-drop}
+use Rattle.replay_form.proofs.NumberLaws.{number_at-drop}
 use Rattle.replay_form.proofs.numbers.u16_at.Goals as goal
 
 pub returns : goal.returns

@@ -1,5 +1,5 @@
 -- The rules of the fields give the ranges of the numbers.
-use Rattle.replay_form.specs.HeadLaws.{whole_ranges}
+use Rattle.replay_form.proofs.HeadLaws.{whole_ranges}
 use Rattle.replay_form.proofs.read_head.read_head.Goals as goal
 
 pub profile_in-profile-requires-clause-right : goal.profile_in-profile-requires-clause-right

@@ -1,7 +1,7 @@
 -- A route of form 2 has four ports at most.
 use Rattle.std.proofs.Common.{◌≡◌, ◌+◌, ◌≤◌, true, sym, ap, subst, ◌∙◌, arith}
 use Rattle.replay_form.specs.HeadFields.{is_second, route_at}
-use Rattle.replay_form.specs.HeadLaws.{has_ports}
+use Rattle.replay_form.proofs.HeadLaws.{has_ports}
 use Rattle.replay_form.specs.Numbers.{number_at}
 use Rattle.replay_form.proofs.read_head.route_of.Goals as goal
 

@@ -1,6 +1,6 @@
 -- The picoseconds of a frame are below a second.
 use Rattle.std.proofs.Common.{arith}
-use Rattle.replay_form.specs.FrameLaws.{frame_ranges}
+use Rattle.replay_form.proofs.FrameLaws.{frame_ranges}
 use Rattle.replay_form.proofs.reader.stamp_in.Goals as goal
 
 pub unreachable-requires : goal.unreachable-requires

@@ -2,7 +2,7 @@
 use Rattle.std.proofs.Common.{◌≡◌, ◌≤◌, ◌+◌, ◌-◌, ◌++◌, ◌∙◌, ℕ, List, length, take, drop, take-add, take-take, sym, ap, subst, arith}
 use Rattle.std.proofs.lemmas.List.{length-drop, length-take-le}
 use Rattle.replay_form.specs.Reading.{StandsFor, frames_after}
-use Rattle.replay_form.specs.ReadingLaws.{step_sound, stands_size}
+use Rattle.replay_form.proofs.ReadingLaws.{step_sound, stands_size}
 use Rattle.replay_form.proofs.tests.verdict.Goals as goal
 
 -- a piece of the bytes, from one place to another

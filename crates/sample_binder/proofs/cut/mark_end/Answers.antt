@@ -1,6 +1,6 @@
 use Rattle.std.proofs.Common.{◌≡◌, ap, ◌∙◌, arith}
 use Rattle.vrt_time.specs.Time.{moment_of, capture_at}
-use Rattle.vrt_time.specs.TimeLaws.{capture_at-le}
+use Rattle.vrt_time.proofs.TimeLaws.{capture_at-le}
 use Rattle.sample_binder.specs.Samples.{rate_in}
 use Rattle.sample_binder.proofs.CutLemmas.{after_sample, earlier, is_passed, passed_before}
 use Rattle.sample_binder.proofs.cut.mark_end.Goals as goal

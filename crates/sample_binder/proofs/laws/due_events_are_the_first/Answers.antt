@@ -1,4 +1,4 @@
-use Rattle.sample_binder.specs.PrefixLaws.{outputs-prefix}
+use Rattle.sample_binder.proofs.PrefixLaws.{outputs-prefix}
 use Rattle.sample_binder.proofs.LawLemmas.{due_told}
 use Rattle.sample_binder.proofs.laws.due_events_are_the_first.Goals as goal
 

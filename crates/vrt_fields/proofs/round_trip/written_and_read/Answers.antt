@@ -2,9 +2,9 @@ use Rattle.std.proofs.Common.{◌≡◌, ◌≤◌, ◌+◌, ℕ, List, ◌++◌
 use Rattle.std.proofs.Math.Seq.{take-append_seam, drop-append_seam}
 use Rattle.std.proofs.lemmas.List.{length-take-le}
 use Rattle.vrt_words.specs.Words.{words_of}
-use Rattle.vrt_words.specs.WordLaws.{length-words_of}
+use Rattle.vrt_words.proofs.WordLaws.{length-words_of}
 use Rattle.vrt_fields.specs.FieldSet.{FieldValues, mask_of, words_of_set, width_of_mask}
-use Rattle.vrt_fields.specs.FieldSetLaws.{width_is_of_fields}
+use Rattle.vrt_fields.proofs.FieldSetLaws.{width_is_of_fields}
 use Rattle.vrt_fields.proofs.round_trip.written_and_read.Goals as goal
 
 -- words put at a place are found there

@@ -1,7 +1,7 @@
 use Rattle.std.proofs.Common.{◌≡◌, sym, subst, arith}
 use Rattle.vrt_fields.specs.Field.{fields_in_order}
 use Rattle.vrt_fields.specs.FieldSet.{mask_of, IsFieldMask}
-use Rattle.vrt_fields.specs.FieldSetLaws.{mask_is_of_fields}
+use Rattle.vrt_fields.proofs.FieldSetLaws.{mask_is_of_fields}
 use Rattle.vrt_fields.proofs.Steps.{mask_next, mask_most, all_bits, mask_end}
 use Rattle.vrt_fields.proofs.values.mask.Goals as goal
 

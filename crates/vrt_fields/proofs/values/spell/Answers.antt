@@ -3,7 +3,7 @@ use Rattle.vrt_fields.specs.declared.field.Field.{Field}
 use Rattle.vrt_fields.specs.declared.field.Field.TheVariants.{ReferencePoint}
 use Rattle.vrt_fields.specs.Field.{fields_in_order, width_of}
 use Rattle.vrt_fields.specs.FieldSet.{FieldValues, words_with, words_of_set, words_if}
-use Rattle.vrt_fields.specs.FieldSetLaws.{IsFieldSet-AllFit}
+use Rattle.vrt_fields.proofs.FieldSetLaws.{IsFieldSet-AllFit}
 use Rattle.vrt_fields.proofs.Steps.{words_next, words_most, all_widths, words_end, fits_at, words_written}
 use Rattle.vrt_fields.proofs.values.spell.Goals as goal
 

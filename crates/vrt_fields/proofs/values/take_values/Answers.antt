@@ -4,7 +4,7 @@ use Rattle.vrt_words.specs.Words.{AreWords}
 use Rattle.vrt_fields.specs.Field.{fields_in_order}
 use Rattle.vrt_fields.specs.FieldSet.{FieldValues, IsFieldSet, IsFieldMask, mask_of, words_of_set, width_of_mask}
 use Rattle.vrt_fields.specs.Values.{values_in, taken}
-use Rattle.vrt_fields.specs.FieldSetLaws.{AllFit-IsFieldSet, fits_read, mask_read, words_read, one_set}
+use Rattle.vrt_fields.proofs.FieldSetLaws.{AllFit-IsFieldSet, fits_read, mask_read, words_read, one_set}
 use Rattle.vrt_fields.proofs.Steps.{width_next, values_step, values_whole}
 use Rattle.vrt_fields.proofs.values.take_values.Goals as goal
 

@@ -3,7 +3,7 @@ use Rattle.std.proofs.Common.{◌∙◌, ap, subst, sym, refl, get_or}
 use Rattle.std.proofs.lemmas.Result.{err_from_is_err_and}
 use Rattle.vrt_words.specs.Words.{words_of, bits}
 use Rattle.vrt_header.specs.Prologue.{IsClassWord, IsClass}
-use Rattle.vrt_header.specs.PrologueLaws.{front_prologue, unstamped_wrong}
+use Rattle.vrt_header.proofs.PrologueLaws.{front_prologue, unstamped_wrong}
 use Rattle.vrt_header.specs.declared.prologue.Prologue.{Prologue}
 use Rattle.vrt_header.proofs.prologue.read_behind.Goals as goal
 

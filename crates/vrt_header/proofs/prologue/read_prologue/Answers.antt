@@ -6,7 +6,7 @@ use Rattle.vrt_words.specs.Begins.{IsRefusedAt}
 use Rattle.vrt_header.specs.Prologue.{IsPrologue}
 use Rattle.vrt_header.specs.Steps.{IsWrongAt}
 use Rattle.vrt_header.specs.Header.{IsHeader}
-use Rattle.vrt_header.specs.PrologueLaws.{one_answer, wrong_refused}
+use Rattle.vrt_header.proofs.PrologueLaws.{one_answer, wrong_refused}
 use Rattle.vrt_header.proofs.prologue.read_prologue.Goals as goal
 
 pub returns-clause-only : goal.returns-clause-only

@@ -1,6 +1,6 @@
 -- The laws of the definitions.
-use Rattle.vrt_header.specs.PrologueLaws.{one_prologue}
-use Rattle.vrt_header.specs.SpellingLaws.{one_front}
+use Rattle.vrt_header.proofs.PrologueLaws.{one_prologue}
+use Rattle.vrt_header.proofs.SpellingLaws.{one_front}
 use Rattle.vrt_header.proofs.round_trip.one_to_one.Goals as goal
 
 pub returns-clause-one_prologue : goal.returns-clause-one_prologue

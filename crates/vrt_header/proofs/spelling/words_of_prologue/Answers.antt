@@ -1,7 +1,7 @@
 -- Each word is the number that its fields make.
 use Rattle.std.proofs.Common.{◌+◌, ◌*◌, ◌%◌, ◌∷◌, ◌∙◌, ap, sym, take, get_or, arith}
 use Rattle.vrt_header.specs.Header.{prologue_words}
-use Rattle.vrt_header.specs.SpellingLaws.{spelled, stamp_items}
+use Rattle.vrt_header.proofs.SpellingLaws.{spelled, stamp_items}
 use Rattle.vrt_header.proofs.spelling.words_of_prologue.Goals as goal
 
 pub returns : goal.returns

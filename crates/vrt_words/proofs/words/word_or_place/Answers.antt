@@ -1,7 +1,7 @@
 -- Where the word is missing, the whole words are those of the bytes there.
 use Rattle.std.proofs.Common.{◌*◌, ◌+◌, ◌<◌, length, inl, inr, arith}
 use Rattle.std.proofs.lemmas.Bool.{cases_lt, false≢true}
-use Rattle.vrt_words.specs.WordLaws.{length-words_of}
+use Rattle.vrt_words.proofs.WordLaws.{length-words_of}
 use Rattle.vrt_words.proofs.words.word_or_place.Goals as goal
 
 pub returns-in-None-clause-missing : goal.returns-in-None-clause-missing

@@ -1,7 +1,7 @@
 -- The word is the number that its groups of bits make.
 use Rattle.std.proofs.Common.{◌≡◌, ◌+◌, ◌*◌, ◌%◌, ◌∙◌, subst, sym, arith}
 use Rattle.cam_field.specs.Cam.{IsSpelled}
-use Rattle.cam_field.specs.CamLaws.{spelled, word_told}
+use Rattle.cam_field.proofs.CamLaws.{spelled, word_told}
 use Rattle.cam_field.specs.Spelling.{word_of_cam}
 use Rattle.cam_field.proofs.cam.Cam.write.Goals as goal
 

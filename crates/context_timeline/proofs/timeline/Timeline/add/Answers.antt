@@ -3,7 +3,7 @@ use Rattle.circular_buffer.specs.Buffer.{Buffer}
 use Rattle.vrt_time.specs.Time.{TimeStamp, moment_of}
 use Rattle.context_timeline.specs.declared.timed_context.TimedContext.{TimedContext}
 use Rattle.context_timeline.specs.Line.{Line, IsLine, line_of_kept, with_context, timed_context, stamp_in, horizon_of}
-use Rattle.context_timeline.specs.LineLaws.{line_of-push, IsLine-with_context}
+use Rattle.context_timeline.proofs.LineLaws.{line_of-push, IsLine-with_context}
 use Rattle.context_timeline.proofs.timeline.Timeline.add.Goals as goal
 
 pub invariant_of-self : goal.invariant_of-self

@@ -6,8 +6,8 @@ use Rattle.context_timeline.specs.declared.mark.Mark.{Mark}
 use Rattle.context_timeline.specs.Line.{line_of, moments}
 use Rattle.context_timeline.specs.Cut.{IsCut, mark_at_cut}
 use Rattle.context_timeline.specs.AllContexts.{IsMark}
-use Rattle.context_timeline.specs.AllContextsLaws.{IsMark-cut}
-use Rattle.context_timeline.specs.CutLaws.{next_stamp_cut, mark_in_cut, mark_in_later}
+use Rattle.context_timeline.proofs.AllContextsLaws.{IsMark-cut}
+use Rattle.context_timeline.proofs.CutLaws.{next_stamp_cut, mark_in_cut, mark_in_later}
 use Rattle.context_timeline.proofs.timeline.Timeline.mark_until.Goals as goal
 
 pub returns-clause-mark : goal.returns-clause-mark

@@ -2,7 +2,7 @@
 use Rattle.std.proofs.Common.{◌≡◌, ℕ, ◌+◌, ◌∙◌, sym, ap, subst, get_or}
 use Rattle.std.proofs.lemmas.List.{get_or-drop}
 use Rattle.vrt_fields.specs.Format.{IsFormat, IsFormatFirst, format_of}
-use Rattle.vrt_fields.specs.FormatLaws.{IsFormat-format_of}
+use Rattle.vrt_fields.proofs.FormatLaws.{IsFormat-format_of}
 use Rattle.difi_context.proofs.context.ContextRec.format.Goals as goal
 
 pub unreachable-requires : goal.unreachable-requires

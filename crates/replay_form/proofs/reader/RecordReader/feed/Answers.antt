@@ -2,7 +2,7 @@
 use Rattle.std.proofs.Common.{Result, Ok, Err, IfErr, OnErr}
 use Rattle.std.proofs.lemmas.Result.{IfOk-weaker}
 use Rattle.replay_form.specs.Reading.{IsStep, IsFailed}
-use Rattle.replay_form.specs.ReadingLaws.{step_stands, step_few, failed_stands}
+use Rattle.replay_form.proofs.ReadingLaws.{step_stands, step_few, failed_stands}
 use Rattle.replay_form.proofs.reader.RecordReader.feed.Goals as goal
 
 on_err : {A B : Type 0} (P : Type 0) (Q : B → Type 0) (r : Result A B) → ((e : B) → Q e → P) → IfErr r Q → OnErr r P

@@ -2,7 +2,7 @@
 use Rattle.std.proofs.Common.{◌≡◌, ◌<◌, ◌+◌, ◌^◌, ◌∙◌, if◌then◌else◌, [], length, take, sym, ap, true, false, None, vec_len, length-append, arith}
 use Rattle.std.proofs.lemmas.Grind.{common_steps}
 use Rattle.std.proofs.lemmas.List.{length-take-le}
-use Rattle.replay_form.specs.RecordLaws.{nothing_open}
+use Rattle.replay_form.proofs.RecordLaws.{nothing_open}
 use Rattle.replay_form.specs.Reading.{Reading, begun}
 use Rattle.replay_form.proofs.reader.RecordReader.feed_frame.Goals as goal
 

@@ -1,6 +1,6 @@
 use Rattle.std.proofs.Common.{sym, ap, ◌∙◌}
 use Rattle.vrt_fields.specs.FieldSet.{FieldValues, mask_of, width_of_mask}
-use Rattle.vrt_fields.specs.FieldSetLaws.{width_is_of_fields}
+use Rattle.vrt_fields.proofs.FieldSetLaws.{width_is_of_fields}
 use Rattle.vrt_fields.proofs.field_set.FieldSet.words.Goals as goal
 
 pub returns-clause-width : goal.returns-clause-width

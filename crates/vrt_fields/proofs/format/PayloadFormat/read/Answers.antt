@@ -1,6 +1,6 @@
 -- A wrong second word, by the law of the refused place.
 use Rattle.std.proofs.Common.{refl, inr}
-use Rattle.vrt_fields.specs.FormatLaws.{refused_at}
+use Rattle.vrt_fields.proofs.FormatLaws.{refused_at}
 use Rattle.vrt_fields.proofs.format.PayloadFormat.read.Goals as goal
 
 pub returns-then-second-ne0-clause-refused : goal.returns-then-second-ne0-clause-refused

@@ -1,0 +1,2 @@
+pub mod CamLaws
+pub mod PlainCam

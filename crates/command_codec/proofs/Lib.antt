@@ -1,0 +1,3 @@
+pub mod FirstWordLaws
+pub mod ControlLaws
+pub mod CancelLaws

@@ -1,0 +1,4 @@
+pub mod GrowingLaws
+pub mod KindLaws
+pub mod CommandPrologueLaws
+pub mod SpellingLaws
