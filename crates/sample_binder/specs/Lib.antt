@@ -1,3 +1,5 @@
+pub mod Reasons
+pub mod RunRules
 pub mod Events
 pub mod Samples
 pub mod Due
