@@ -17,3 +17,4 @@ pub mod Released
 pub mod Binder
 pub mod Drained
 pub mod Readings
+pub mod Parts
