@@ -18,7 +18,7 @@ use Rattle.context_timeline.specs.Line.{Line, line_of, horizon_of, stamp_in}
 use Rattle.context_timeline.proofs.LineLaws.{line_of-push, horizon_of-line_of}
 use Rattle.reorder_window.specs.declared.entry.Entry.{Entry}
 use Rattle.reorder_window.specs.State as window
-use Rattle.reorder_window.specs.State.{Holding}
+use Rattle.reorder_window.specs.State.{Holding, IsUndrained}
 use Rattle.reorder_window.specs.Window.{AreFalling, AreBelow, accepted, number_held, release, in_order, releases, answer}
 use Rattle.reorder_window.proofs.WindowLaws.{every-accepted, every-release}
 use Rattle.sample_binder.specs.declared.limits.Limits.{Limits}
@@ -434,3 +434,16 @@ module _ (same : Buffer → Buffer → Bool) (limits : Limits) (old new : Holdin
         left = ap (λ xs. (h.done ++ map data_event rs) ++ xs) (none more h.contexts_drained 0 after.ended (told_same ∙ untold)) ∙ append-nil (h.done ++ map data_event rs)
             ∙ ap (λ xs. xs ++ map data_event rs) done_is ∙ ap (λ xs. events_of limits calls ++ xs) (sym event) ∙ sym (events_of-more limits calls (DataCall buf));
       }
+
+-- while the end was not told, nothing was drained from a window
+pub undrained_contexts : (kept given : ℕ) (holding : Holding ContextRec) (line : Line) (told : Bool) → AreContextsSeen kept given holding line told → told ≡ false → IsUndrained holding
+undrained_contexts kept given holding line told seen untold = record {
+  arrivals = seen.arrivals;
+  stands = subst (λ n. window.StandsFor holding seen.arrivals n) (seen.undrained untold) seen.stands;
+}
+
+pub undrained_packets : (holding : Holding Buffer) (told : Bool) → ArePacketsSeen holding told → told ≡ false → IsUndrained holding
+undrained_packets holding told seen untold = record {
+  arrivals = seen.arrivals;
+  stands = subst (λ n. window.StandsFor holding seen.arrivals n) (seen.undrained untold) seen.stands;
+}

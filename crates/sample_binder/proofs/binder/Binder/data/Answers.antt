@@ -7,11 +7,17 @@ use Rattle.sample_binder.specs.Released.{queue_with}
 use Rattle.sample_binder.specs.Binder.{Bound, IsBound, StandsFor, Follows, without_release}
 use Rattle.sample_binder.specs.Events.{Event}
 use Rattle.sample_binder.specs.Queue as queue
-use Rattle.sample_binder.proofs.BinderLemmas.{data_bytes, front_released, seen_data, turned_data, buffer_back, answer_data, follows_data, bound_data, same_but}
+use Rattle.sample_binder.proofs.BinderLemmas.{undrained_packets, data_bytes, front_released, seen_data, turned_data, buffer_back, answer_data, follows_data, bound_data, same_but}
 use Rattle.sample_binder.proofs.binder.Binder.data.Goals as goal
 
-pub arrive_data-requires : goal.arrive_data-requires
-arrive_data-requires c = record { front = data_bytes c.args.self.now.profile c.args.buf.bytes c.requires.grammar }
+pub arrive_data-requires-clause-front : goal.arrive_data-requires-clause-front
+arrive_data-requires-clause-front c = data_bytes c.args.self.now.profile c.args.buf.bytes c.requires.grammar
+
+pub arrive_data-requires-clause-undrained : goal.arrive_data-requires-clause-undrained
+arrive_data-requires-clause-undrained c =
+    let inside = c.self.inside in
+    let untold : inside.told ≡ false = ap (λ (b : Bound). b.told) c.self.view_is ∙ c.requires.untold in
+    undrained_packets inside.packets inside.told c.self.invariant.seen.packets_seen untold
 
 pub give_data-requires-clause-front : goal.give_data-requires-clause-front
 give_data-requires-clause-front c =
