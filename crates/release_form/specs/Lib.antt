@@ -1,5 +1,6 @@
 pub mod Positions
 pub mod Reasons
+pub mod Refusals
 pub mod Rules
 pub mod Layout
 pub mod Sizes

@@ -8,6 +8,9 @@ use Rattle.sample_binder.specs.declared.reason.Reason.{Reason}
 use Rattle.sample_binder.specs.declared.run.Run.{Run}
 use Rattle.sample_binder.specs.declared.run.Run.TheVariants.{Bound, Uncertain, Raw}
 use Rattle.release_form.specs.Reasons.{number_of, IsInTable}
+use Rattle.release_form.specs.Refusals.{refusal_number}
+use Rattle.release_form.specs.declared.refusal.Refusal.{Refusal}
+use Rattle.release_form.specs.declared.refusal.Refusal.TheVariants.{Late}
 use Rattle.release_form.specs.declared.shown.Shown.{Shown}
 use Rattle.release_form.specs.declared.shown.Shown.TheVariants.{Run as ARun, Ack, Refused, Version, End}
 
@@ -46,12 +49,12 @@ ObeysRun (Bound stamp first number moment fields bits) = ObeysBound stamp first 
 ObeysRun (Uncertain reason stamp first number moment bits) = ObeysUncertain reason first number
 ObeysRun (Raw reason stamp pad) = ObeysRaw reason pad
 
--- frames are counted from 1, there are ten reasons, and a late packet alone has a stamp
+-- frames are counted from 1, the reason is a number of the table of refusals, and a late packet alone has a stamp
 pub record ObeysRefused (frame reason : ℕ) (stamp : Option TimeStamp) : Type 0 where
   pub counted : 1 ≤ frame
-  pub least : 1 ≤ reason
-  pub most : reason ≤ 10
-  pub late : IsSome stamp ↔ (reason ≡ 4)
+  pub refusal : Refusal
+  pub reason_is : reason ≡ refusal_number refusal
+  pub late : IsSome stamp ↔ (refusal ≡ Late)
 
 abbrev pub Obeys : Shown → Type 0
 Obeys (ARun stream port lost run) = (lost ≤ 15) × ObeysRun run

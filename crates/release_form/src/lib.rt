@@ -11,6 +11,7 @@ mod front;
 mod positions;
 mod reading;
 mod reasons;
+mod refusal;
 mod round_trip;
 mod samples;
 mod shown;
@@ -20,6 +21,7 @@ mod tests;
 
 pub use crate::decoding::decode;
 pub use crate::encoding::encode;
+pub use crate::refusal::Refusal;
 pub use crate::round_trip::one_to_one;
 pub use crate::shown::Shown;
 pub use crate::size::size_of;
