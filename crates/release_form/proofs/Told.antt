@@ -1,5 +1,5 @@
 -- What a record of each kind says, by its words.
-use Rattle.std.proofs.Common.{◌≡◌, ℕ, ◌+◌, ◌%◌, ◌≤◌, ◌≢◌, List, length, take, drop, refl, sym, ◌∙◌, subst, length-drop, Option, Some, None, IfNone, arith}
+use Rattle.std.proofs.Common.{◌≡◌, ℕ, ◌+◌, ◌%◌, ◌≤◌, ◌≢◌, List, length, take, drop, refl, ◌∙◌, subst, length-drop, Option, Some, None, IfNone, arith}
 use Rattle.vrt_words.specs.Words.{words_of}
 use Rattle.vrt_time.specs.Time.{TimeStamp, capture_at}
 use Rattle.vrt_fields.specs.declared.field.Field.TheVariants.{SampleRate}
@@ -7,8 +7,9 @@ use Rattle.difi_context.specs.Context.{field_of}
 use Rattle.sample_binder.specs.declared.reason.Reason.{Reason}
 use Rattle.sample_binder.specs.declared.run.Run.TheVariants.{Bound, Uncertain, Raw}
 use Rattle.release_form.specs.Positions.{word, double, quadruple, stamp_at}
-use Rattle.release_form.specs.Rules.{AreFields, ObeysRefused}
-use Rattle.release_form.specs.Reasons.{IsReason, number_of}
+use Rattle.sample_binder.specs.RunRules.{AreFields}
+use Rattle.release_form.specs.Rules.{ObeysRefused}
+use Rattle.sample_binder.specs.Reasons.{IsReason, number_of}
 use Rattle.release_form.specs.Refusals.{refusal_number}
 use Rattle.release_form.specs.declared.refusal.Refusal.{Refusal}
 use Rattle.release_form.specs.declared.refusal.Refusal.TheVariants.{Late}
@@ -139,11 +140,7 @@ reads_raw stream port lost reason stamp pad bytes kind size source why at p othe
   part_length = record { some = omega (arith, length-drop 44 bytes); whole = omega (arith, length-drop 44 bytes) };
 }
 
--- the refusal of a frame, with or without a stamp
-pub refused_by : (shown : Shown) (part bytes : List ℕ) → word bytes 0 ≡ 5 → IsRelease shown part bytes → (refusal : Refusal) × (refusal_number refusal ≡ word bytes 5)
-refused_by (Refused frame port reason detail stamp) part bytes kind h = (h.obeys.refusal, sym h.obeys.reason_is ∙ h.positions.reason_is)
-refused_by shown part bytes kind h = absurd (omega (arith, kind, h.kind_is))
-
+-- a frame is refused with a stamp, or without one
 pub late_obeys : (frame reason : ℕ) (refusal : Refusal) (stamp : TimeStamp) → 1 ≤ frame → reason ≡ refusal_number refusal → refusal ≡ Late → ObeysRefused frame reason (Some stamp)
 late_obeys frame reason refusal stamp counted number late = record { counted = counted; refusal = refusal; reason_is = number; late = (λ some. late, λ e. refl) }
 

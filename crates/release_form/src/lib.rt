@@ -10,7 +10,6 @@ mod fields;
 mod front;
 mod positions;
 mod reading;
-mod reasons;
 mod refusal;
 mod round_trip;
 mod samples;
