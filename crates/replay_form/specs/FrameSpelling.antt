@@ -1,10 +1,8 @@
 -- The bytes of a frame.
-use Rattle.std.specs.Prelude.{◌≡◌, ℕ, ◌≤◌, List, ◌++◌, length}
-use Rattle.byteorder.specs.Endian.{big_bytes}
+use Rattle.std.specs.Prelude.{◌≡◌, ℕ, ◌≤◌, List, length}
 use Rattle.vrt_time.specs.Time.{TimeStamp}
 use Rattle.vrt_words.specs.Words.{AreBytes}
 use Rattle.replay_form.specs.Numbers.{number_at}
-use Rattle.replay_form.specs.FrameFields.{Frame}
 
 -- bytes that begin with these numbers
 pub record IsFrameHead (stamp : TimeStamp) (port size : ℕ) (bytes : List ℕ) : Type 0 where
