@@ -1,5 +1,5 @@
 -- What a record of each kind says, by its words.
-use Rattle.std.proofs.Common.{◌≡◌, ℕ, ◌+◌, ◌%◌, ◌≤◌, ◌≢◌, List, length, take, drop, refl, sym, ◌∙◌, subst, length-drop, Option, Some, None, IfNone, arith}
+use Rattle.std.proofs.Common.{◌≡◌, ℕ, ◌+◌, ◌%◌, ◌≤◌, ◌≢◌, List, length, take, drop, refl, ◌∙◌, subst, length-drop, Option, Some, None, IfNone, arith}
 use Rattle.vrt_words.specs.Words.{words_of}
 use Rattle.vrt_time.specs.Time.{TimeStamp, capture_at}
 use Rattle.vrt_fields.specs.declared.field.Field.TheVariants.{SampleRate}
@@ -140,11 +140,7 @@ reads_raw stream port lost reason stamp pad bytes kind size source why at p othe
   part_length = record { some = omega (arith, length-drop 44 bytes); whole = omega (arith, length-drop 44 bytes) };
 }
 
--- the refusal of a frame, with or without a stamp
-pub refused_by : (shown : Shown) (part bytes : List ℕ) → word bytes 0 ≡ 5 → IsRelease shown part bytes → (refusal : Refusal) × (refusal_number refusal ≡ word bytes 5)
-refused_by (Refused frame port reason detail stamp) part bytes kind h = (h.obeys.refusal, sym h.obeys.reason_is ∙ h.positions.reason_is)
-refused_by shown part bytes kind h = absurd (omega (arith, kind, h.kind_is))
-
+-- a frame is refused with a stamp, or without one
 pub late_obeys : (frame reason : ℕ) (refusal : Refusal) (stamp : TimeStamp) → 1 ≤ frame → reason ≡ refusal_number refusal → refusal ≡ Late → ObeysRefused frame reason (Some stamp)
 late_obeys frame reason refusal stamp counted number late = record { counted = counted; refusal = refusal; reason_is = number; late = (λ some. late, λ e. refl) }
 

@@ -1,8 +1,7 @@
 -- Bytes of which the first ones alone are judged have one verdict.
-use Rattle.std.proofs.Common.{◌≡◌, ℕ, ◌<◌, ◌≤◌, inl, inr, List, [], ◌∷◌, length, take, refl, sym, ◌∙◌, subst, take_all, arith}
-use Rattle.replay_form.specs.HeadFields.{IsHeadPart}
+use Rattle.std.proofs.Common.{◌≡◌, ℕ, ◌≤◌, inl, inr, List, [], ◌∷◌, length, take, sym, ◌∙◌, subst, take_all, arith}
 use Rattle.replay_form.specs.FrameFields.{Frame}
-use Rattle.replay_form.specs.Record.{IsCut, IsOpen, IsRecordWrongAt, EndsInside}
+use Rattle.replay_form.specs.Record.{IsOpen}
 use Rattle.replay_form.specs.Verdict.{HasNoFault, HasFaultAt, IsBad, IsLonger, IsWhole}
 use Rattle.replay_form.specs.declared.record_head.RecordHead.{RecordHead}
 use Rattle.replay_form.proofs.VerdictLaws as laws
