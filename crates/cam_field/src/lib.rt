@@ -5,6 +5,8 @@
 mod cam;
 mod ident;
 mod modes;
+#[cfg(test)]
+mod role_tests;
 mod round_trip;
 #[cfg(test)]
 mod tests;

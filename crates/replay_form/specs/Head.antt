@@ -4,7 +4,7 @@ use Rattle.vrt_words.specs.Words.{AreBytes}
 use Rattle.vrt_header.specs.Profile.{profile_of}
 use Rattle.cam_field.specs.declared.ident.Ident.{Ident}
 use Rattle.cam_field.specs.declared.ident.Ident.TheVariants as idents
-use Rattle.sample_binder.specs.declared.limits.Limits.{Limits}
+use Rattle.vrt_fields.specs.declared.limits.Limits.{Limits}
 use Rattle.vrt_fields.specs.declared.limit.Limit.{Limit}
 use Rattle.vrt_fields.specs.declared.route.Route.{Route}
 use Rattle.replay_form.specs.Numbers.{number_at, signed_at, AreNumbers}

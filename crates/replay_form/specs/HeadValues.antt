@@ -7,7 +7,7 @@ use Rattle.vrt_header.specs.Profile.{IsProfile}
 use Rattle.vrt_fields.specs.declared.limit.Limit.{Limit}
 use Rattle.vrt_fields.specs.declared.route.Route.{Route}
 use Rattle.cam_field.specs.declared.ident.Ident.{Ident}
-use Rattle.sample_binder.specs.Binder.{AreLimits}
+use Rattle.vrt_fields.specs.Limits.{AreLimits}
 use Rattle.replay_form.specs.HeadFields.{IsRouteCount, IsInitialWord, IsStep, IsLeast, IsGreatest, most_pending}
 use Rattle.replay_form.specs.HeadSpelling.{identity_words}
 use Rattle.replay_form.specs.declared.record_head.RecordHead.{RecordHead}

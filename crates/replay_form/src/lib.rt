@@ -1,6 +1,8 @@
 //! The record of received datagrams: a header and frames, read in any pieces and written.
 #![tactic(auto)]
 
+#[cfg(test)]
+mod edge_tests;
 mod event;
 mod frame_field;
 mod frame_spelling;
@@ -29,7 +31,6 @@ pub use crate::reader::RecordReader;
 pub use crate::record_head::RecordHead;
 pub use crate::route_list::RouteList;
 pub use cam_field::Ident;
-pub use sample_binder::Limits;
-pub use vrt_fields::{Limit, Route};
+pub use vrt_fields::{Limit, Limits, Route};
 pub use vrt_header::Profile;
 pub use vrt_time::Stamp;

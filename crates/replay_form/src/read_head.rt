@@ -11,8 +11,7 @@ use crate::numbers::{i64_at, read_words, u16_at, u32_at, u64_at};
 use crate::record_head::RecordHead;
 use crate::route_list::RouteList;
 use cam_field::Ident;
-use sample_binder::Limits;
-use vrt_fields::{Limit, Route};
+use vrt_fields::{Limit, Limits, Route};
 use vrt_header::Profile;
 
 /// What a whole header says. Its routes are put into the list that is given, which is empty and has

@@ -1,7 +1,6 @@
 use crate::route_list::RouteList;
 use cam_field::Ident;
-use sample_binder::Limits;
-use vrt_fields::Limit;
+use vrt_fields::{Limit, Limits};
 use vrt_header::Profile;
 
 /// The header of a record.

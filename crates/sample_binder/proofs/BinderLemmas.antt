@@ -21,14 +21,14 @@ use Rattle.reorder_window.specs.State as window
 use Rattle.reorder_window.specs.State.{Holding, IsUndrained}
 use Rattle.reorder_window.specs.Window.{AreFalling, AreBelow, accepted, number_held, release, in_order, releases, answer}
 use Rattle.reorder_window.proofs.WindowLaws.{every-accepted, every-release}
-use Rattle.sample_binder.specs.declared.limits.Limits.{Limits}
+use Rattle.vrt_fields.specs.declared.limits.Limits.{Limits}
 use Rattle.sample_binder.specs.declared.pending.Pending.{Pending}
 use Rattle.sample_binder.specs.declared.turned.Turned.{Turned}
 use Rattle.sample_binder.specs.Arrivals.{released_list, releases_by, Takes}
 use Rattle.sample_binder.specs.Binder.{Bound, IsBound, Follows, AreContextsSeen, ArePacketsSeen, left_events, end_events}
 use Rattle.sample_binder.specs.Calls.{Call, ContextCall, DataCall, EndCall, context_arrivals, data_arrivals, context_entry, data_entry, is_told, context_event, data_event, behind, events_by, events_from, events_of, outcome}
 use Rattle.sample_binder.specs.Events.{Event}
-use Rattle.sample_binder.specs.Given.{IsContextEntry, IsDataEntry, IsDataBytes, IsDataOf, IsLater}
+use Rattle.sample_binder.specs.Given.{IsContextEntry, IsDataEntry, IsDataBytes, IsDataOf, HasDataSize, IsLater}
 use Rattle.sample_binder.specs.Queue.{State, owed}
 use Rattle.sample_binder.specs.Queue as queue
 use Rattle.sample_binder.specs.Released.{released_context, with_released}
@@ -328,6 +328,21 @@ same_but profile limits contexts packets state given told =
 size_told : (kind : Kind) (timed : Bool) (size : ℕ) → is_size kind timed size ≡ true → kind ≡ Data → size ≤ 16376
 size_told Data timed size h e = grind arith
 size_told kind timed size h e = absurd (cc)
+
+size_least : (kind : Kind) (timed : Bool) (size : ℕ) → is_size kind timed size ≡ true → kind ≡ Data → 8 ≤ size
+size_least Data timed size h e = grind arith
+size_least kind timed size h e = absurd (cc)
+
+-- how long it is
+pub data_size : (profile : PacketProfile) (bytes : List ℕ) → IsDataOf profile bytes → HasDataSize bytes
+data_size profile bytes h =
+    let p = h.packet.prologue in
+    let d = h.datagram.packet in
+    record {
+      whole = h.datagram.whole;
+      least = omega (arith, d.size, size_least p.header.kind p.header.timed p.header.size d.prologue.header.size_allowed d.kind);
+      most = omega (arith, d.size, size_told p.header.kind p.header.timed p.header.size d.prologue.header.size_allowed d.kind);
+    }
 
 stamped : (timed : Bool) (stamp : Option TimeStamp) (words : List ℕ) → IsStamped timed stamp words → timed ≡ true → fraction_of (get_or words 5 0) (get_or words 6 0) < 10 ^ 12
 stamped true stamp words h e = h.0

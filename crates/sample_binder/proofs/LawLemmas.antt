@@ -12,7 +12,7 @@ use Rattle.difi_data.specs.Data.{DataPacket, IsData}
 use Rattle.vrt_header.proofs.KindLaws.{seven_words, timed_of_kind}
 use Rattle.difi_data.proofs.SpellingLaws.{payload_size}
 use Rattle.sample_binder.specs.declared.label.Label.{Label}
-use Rattle.sample_binder.specs.declared.limits.Limits.{Limits}
+use Rattle.vrt_fields.specs.declared.limits.Limits.{Limits}
 use Rattle.sample_binder.specs.Due.{first_below, first_from, may_leave, has_case_after, due}
 use Rattle.sample_binder.specs.Events.{Event}
 use Rattle.sample_binder.proofs.FirstLaws.{IsFirst, first_below-first, first_below-is, first_below-none_passes}

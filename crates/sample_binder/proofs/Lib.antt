@@ -10,7 +10,12 @@ pub mod RunLemmas
 pub mod StateLemmas
 pub mod GiveLemmas
 pub mod ArrivalLemmas
+pub mod KeptLemmas
 pub mod BinderLemmas
 pub mod DrainLemmas
 pub mod NextLemmas
 pub mod LawLemmas
+pub mod MarkLemmas
+pub mod WritableLemmas
+pub mod EventLemmas
+pub mod PartLemmas

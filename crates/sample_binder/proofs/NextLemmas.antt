@@ -1,5 +1,5 @@
 -- The end is told, and the next output is taken.
-use Rattle.std.proofs.Common.{◌≡◌, ◌≢◌, ◌↔◌, IsTrue, ◌⊎◌, ℕ, ◌+◌, ◌<◌, ◌≤◌, Bool, true, false, cond, List, [], ◌∷◌, ◌++◌, length, drop, map, slice_get, Some, None, refl, sym, ap, ◌∙◌, subst, inl, inr, arith, length-drop}
+use Rattle.std.proofs.Common.{◌≡◌, ◌≢◌, ◌↔◌, IsTrue, ◌⊎◌, ℕ, ◌+◌, ◌<◌, ◌≤◌, Bool, true, false, cond, List, [], ◌∷◌, ◌++◌, length, drop, map, slice_get, Some, None, refl, sym, ap, ◌∙◌, subst, inl, inr, arith, length-append, length-drop}
 use Rattle.std.proofs.lemmas.List.{append-nil, drop-append-le, length-take-le}
 use Rattle.std.proofs.lemmas.Option.{slice_get_past, slice_get_within}
 use Rattle.vrt_words.specs.Buffer.{Buffer}
@@ -9,7 +9,7 @@ use Rattle.reorder_window.specs.declared.entry.Entry.{Entry}
 use Rattle.reorder_window.specs.State as window
 use Rattle.reorder_window.specs.State.{Holding}
 use Rattle.reorder_window.specs.Window.{accepted, number_held, releases}
-use Rattle.sample_binder.specs.declared.limits.Limits.{Limits}
+use Rattle.vrt_fields.specs.declared.limits.Limits.{Limits}
 use Rattle.sample_binder.specs.declared.out.Out.{Out}
 use Rattle.sample_binder.proofs.Cases.{tested}
 use Rattle.sample_binder.specs.Binder.{Bound, IsBound, Follows, AreContextsSeen, ArePacketsSeen, left_events, end_events}
@@ -99,6 +99,13 @@ module _ (limits : Limits) (contexts : Holding ContextRec) (packets : Holding Bu
         rest ++ p.0,
         ap (drop taken) all ∙ drop-append-le taken (outputs limits h.done) p.0 h.queue_stands.taken_within ∙ ap (λ xs. xs ++ p.0) (h.queue_stands.rest ∙ e),
       )
+
+  -- no more outputs were taken than there are
+  pub taken_within : taken ≤ length (outputs_of limits calls)
+  taken_within =
+      let p = outputs-prefix limits (left_events limits calls h.contexts_drained h.packets_drained state.ended) h.done in
+      let all : outputs_of limits calls ≡ outputs limits h.done ++ p.0 = ap (outputs limits) (sym h.left) ∙ p.1 in
+      omega (arith, h.queue_stands.taken_within, ap length all, length-append (outputs limits h.done) p.0)
 
   pub given_next : (given : Out) (rest : List Out) → owed state ≡ given ∷ rest → Some given ≡ slice_get (outputs_of limits calls) taken
   given_next given rest e =

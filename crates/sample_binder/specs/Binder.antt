@@ -1,5 +1,5 @@
 -- What a contract sees of a binder, and what it stands for.
-use Rattle.std.specs.Prelude.{◌≡◌, ℕ, ◌≤◌, ◌^◌, Bool, true, false, if◌then◌else◌, List, [], ◌∷◌, ◌++◌, length, map, Result, Ok, Err}
+use Rattle.std.specs.Prelude.{◌≡◌, ℕ, ◌+◌, ◌≤◌, ◌^◌, Bool, true, false, if◌then◌else◌, List, [], ◌∷◌, ◌++◌, length, map, Result, Ok, Err}
 use Rattle.std.specs.List.{AllByRecursion}
 use Rattle.vrt_words.specs.Buffer.{Buffer}
 use Rattle.vrt_header.specs.Profile.{PacketProfile}
@@ -9,7 +9,8 @@ use Rattle.reorder_window.specs.declared.entry.Entry.{Entry}
 use Rattle.reorder_window.specs.State as window
 use Rattle.reorder_window.specs.State.{Holding}
 use Rattle.reorder_window.specs.Window.{accepted, releases}
-use Rattle.sample_binder.specs.declared.limits.Limits.{Limits}
+use Rattle.vrt_fields.specs.declared.limits.Limits.{Limits}
+use Rattle.vrt_fields.specs.Limits.{AreLimits}
 use Rattle.sample_binder.specs.declared.turned.Turned.{Turned}
 use Rattle.sample_binder.specs.Calls.{Call, context_arrivals, data_arrivals, is_told, context_event, data_event, behind, all_releases, events_of}
 use Rattle.sample_binder.specs.Events.{Event, EndEvent}
@@ -17,15 +18,6 @@ use Rattle.sample_binder.specs.Given.{IsContextEntry, IsDataEntry}
 use Rattle.sample_binder.specs.Queue.{State, owed}
 use Rattle.sample_binder.specs.Queue as queue
 use Rattle.sample_binder.specs.Released.{released_context}
-
--- the limits that a binder can have
-pub record AreLimits (limits : Limits) : Type 0 where
-  pub data_window : limits.data_window ≤ 4096
-  pub context_window : limits.context_window ≤ 4096
-  pub least_kept : 2 ≤ limits.kept
-  pub most_kept : limits.kept ≤ 4096
-  pub least_pending : 1 ≤ limits.pending
-  pub most_pending : limits.pending ≤ 1048576
 
 -- what it was opened with, the two windows, the timeline and the packets that wait, how many packets it has taken, and
 -- whether the end was told
@@ -37,6 +29,10 @@ pub record Bound : Type 0 where
   pub state : State
   pub given : ℕ
   pub told : Bool
+
+-- how many data packets it keeps: those that the window holds, and those that wait
+abbrev pub number_kept : Bound → ℕ
+number_kept bound = length bound.packets.held + length bound.state.queue
 
 -- the events that are left after the end was told: what the windows still hold, and the end
 abbrev pub end_events : Limits → List Call → ℕ → ℕ → List Event

@@ -9,7 +9,7 @@ use Rattle.reorder_window.specs.declared.entry.Entry.{Entry}
 use Rattle.reorder_window.specs.declared.arrival.Arrival.{Arrival}
 use Rattle.reorder_window.specs.declared.arrival.Arrival.TheVariants as arrival
 use Rattle.reorder_window.specs.Window.{accepted, in_order, releases}
-use Rattle.sample_binder.specs.declared.limits.Limits.{Limits}
+use Rattle.vrt_fields.specs.declared.limits.Limits.{Limits}
 use Rattle.sample_binder.specs.declared.out.Out.{Out}
 use Rattle.sample_binder.specs.declared.shape.Shape.{Shape}
 use Rattle.sample_binder.specs.declared.turned.Turned.{Turned}
@@ -100,6 +100,10 @@ events_of limits calls = events_from limits [] calls
 -- what they give
 abbrev pub outputs_of : Limits → List Call → List Out
 outputs_of limits calls = outputs limits (events_of limits calls)
+
+-- what a call adds to what the calls before it gave
+abbrev pub given_by : Limits → List Call → Call → List Out
+given_by limits calls call = behind (outputs_of limits calls) (outputs_of limits (calls ++ call ∷ []))
 
 -- how an arrival is answered: what it releases, or why it is not taken, with the packet
 abbrev pub outcome : {T : Type 0} → Arrival T → Result (Option (TimeStamp × ℕ × T)) (Turned × T)

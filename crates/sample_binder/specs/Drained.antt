@@ -4,7 +4,7 @@ use Rattle.vrt_words.specs.Buffer.{Buffer}
 use Rattle.difi_context.specs.declared.context.ContextRec.{ContextRec}
 use Rattle.context_timeline.specs.Line.{Line}
 use Rattle.reorder_window.specs.State.{Holding}
-use Rattle.sample_binder.specs.declared.limits.Limits.{Limits}
+use Rattle.vrt_fields.specs.declared.limits.Limits.{Limits}
 use Rattle.sample_binder.specs.Binder.{AreContextsSeen, ArePacketsSeen, Follows}
 use Rattle.sample_binder.specs.Calls.{Call}
 use Rattle.sample_binder.specs.Queue.{State}
@@ -29,3 +29,4 @@ pub record Drains (contexts : Holding ContextRec) (packets : Holding Buffer) (st
   pub context_size : contexts_after.size ≡ contexts.size
   pub data_size : packets_after.size ≡ packets.size
   pub pending : after.pending ≡ state.pending
+  pub kept : length packets_after.held + length after.queue ≡ length packets.held + length state.queue

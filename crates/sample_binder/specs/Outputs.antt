@@ -1,6 +1,6 @@
 -- What the events of a stream give.
 use Rattle.std.specs.Prelude.{ℕ, suc, zero, Bool, true, false, List, [], ◌∷◌, ◌++◌, length, take, slice_get, map, Option, Some, None}
-use Rattle.sample_binder.specs.declared.limits.Limits.{Limits}
+use Rattle.vrt_fields.specs.declared.limits.Limits.{Limits}
 use Rattle.sample_binder.specs.declared.out.Out.{Out}
 use Rattle.sample_binder.specs.declared.out.Out.TheVariants as out
 use Rattle.sample_binder.specs.declared.pending.Pending.{Pending}
@@ -15,6 +15,11 @@ use Rattle.context_timeline.specs.Line.{Line}
 abbrev pub open_reason : Bool → Reason
 open_reason true = reason.Ended
 open_reason false = reason.PendingFull
+
+-- how many packets an output has
+abbrev pub packets_in : Out → ℕ
+packets_in (out.Packet buf lost) = 1
+packets_in (out.Run run) = 0
 
 -- a packet and its runs
 abbrev pub packet_and_runs : Line → Reason → Pending → List Out

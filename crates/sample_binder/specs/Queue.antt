@@ -5,7 +5,7 @@ use Rattle.context_timeline.specs.Line.{Line}
 use Rattle.context_timeline.specs.Marks.{mark_in}
 use Rattle.vrt_time.specs.Time.{moment_of}
 use Rattle.sample_binder.specs.declared.leaving.Leaving.{Leaving}
-use Rattle.sample_binder.specs.declared.limits.Limits.{Limits}
+use Rattle.vrt_fields.specs.declared.limits.Limits.{Limits}
 use Rattle.sample_binder.specs.declared.out.Out.{Out}
 use Rattle.sample_binder.specs.declared.out.Out.TheVariants as out
 use Rattle.sample_binder.specs.declared.pending.Pending.{Pending}

@@ -2,7 +2,7 @@ ghost use Rattle.std.specs.Prelude.{◌≡◌, ◌≤◌, ◌<◌, true, false, 
 ghost use Rattle.vrt_header.specs.Profile.{profile_of};
 ghost use Rattle.difi_context.specs.Context.{IsSpelled};
 ghost use Rattle.sample_binder.specs.Given.{IsDataOf};
-ghost use Rattle.sample_binder.specs.Binder.{AreLimits};
+ghost use Rattle.vrt_fields.specs.Limits.{AreLimits};
 ghost use Rattle.sample_binder.specs.Queue.{owed};
 
 use crate::harness::profile;

@@ -1,4 +1,4 @@
-ghost use Rattle.sample_binder.specs.Binder.{AreLimits};
+ghost use Rattle.vrt_fields.specs.Limits.{AreLimits};
 
 use crate::harness::{Payload, Time, Tuning, context, fields, moment, packet, stamp};
 use crate::player::Player;

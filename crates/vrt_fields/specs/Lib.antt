@@ -1,4 +1,5 @@
 pub mod Field
+pub mod Limits
 pub mod Format
 pub mod FieldSet
 pub mod Values

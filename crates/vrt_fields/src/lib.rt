@@ -6,7 +6,10 @@ mod digits;
 mod field;
 mod field_set;
 mod format;
+#[cfg(test)]
+mod format_tests;
 mod limit;
+mod limits;
 mod round_trip;
 mod route;
 #[cfg(test)]
@@ -22,6 +25,7 @@ pub use crate::field::Field;
 pub use crate::field_set::FieldSet;
 pub use crate::format::PayloadFormat;
 pub use crate::limit::Limit;
+pub use crate::limits::Limits;
 pub use crate::round_trip::{one_set_for_words, written_and_read};
 pub use crate::route::Route;
 pub use crate::text::text_of;
