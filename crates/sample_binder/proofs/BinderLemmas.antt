@@ -340,8 +340,8 @@ data_size profile bytes h =
     let d = h.datagram.packet in
     record {
       whole = h.datagram.whole;
-      least = omega (arith, d.size, size_least p.header.kind p.header.timed p.header.size d.prologue.header.size_allowed d.kind);
-      most = omega (arith, d.size, size_told p.header.kind p.header.timed p.header.size d.prologue.header.size_allowed d.kind);
+      least = omega (arith, d.size, size_least p.header.kind p.header.timed p.header.size d.prologue.prologue.header.size_allowed d.prologue.kind);
+      most = omega (arith, d.size, size_told p.header.kind p.header.timed p.header.size d.prologue.prologue.header.size_allowed d.prologue.kind);
     }
 
 stamped : (timed : Bool) (stamp : Option TimeStamp) (words : List ℕ) → IsStamped timed stamp words → timed ≡ true → fraction_of (get_or words 5 0) (get_or words 6 0) < 10 ^ 12
