@@ -9,6 +9,7 @@ use Rattle.vrt_time.specs.Time.{TimeStamp, stamp_of, fraction_of}
 use Rattle.vrt_header.specs.Profile.{PacketProfile}
 use Rattle.vrt_header.specs.Prologue.{IsStamped}
 use Rattle.difi_data.specs.Data.{DataPacket, IsData}
+use Rattle.vrt_header.specs.declared.header.Kind.TheVariants.{Data}
 use Rattle.vrt_header.proofs.KindLaws.{seven_words, timed_of_kind}
 use Rattle.vrt_header.specs.declared.header.Kind.TheVariants.{Data}
 use Rattle.difi_data.proofs.SpellingLaws.{payload_size}
