@@ -21,3 +21,4 @@ pub mod EventLemmas
 pub mod PartLemmas
 pub mod GrowLemmas
 pub mod LabelLemmas
+pub mod TotalLemmas

@@ -6,11 +6,11 @@ ghost use Rattle.sample_binder.specs.declared.label.Label.{Label};
 ghost use Rattle.vrt_fields.specs.declared.limits.Limits.{Limits};
 ghost use Rattle.sample_binder.specs.declared.out.Out.{Out};
 ghost use Rattle.sample_binder.specs.Binder.{Bound, StandsFor};
-ghost use Rattle.sample_binder.specs.Calls.{Call, is_told, behind, all_releases, events_by, events_of, outputs_of, given_by};
+ghost use Rattle.sample_binder.specs.Calls.{Call, EndCall, is_told, behind, all_releases, events_by, events_of, outputs_of, given_by};
 ghost use Rattle.sample_binder.specs.Due.{due};
 ghost use Rattle.sample_binder.specs.Events.{Event};
 ghost use Rattle.sample_binder.specs.Outputs.{outputs};
-ghost use Rattle.sample_binder.specs.Parts.{AreCallsOf, AreWhole, AreParts, AnyPart};
+ghost use Rattle.sample_binder.specs.Parts.{AreCallsOf, AreWhole, AreParts, AnyPart, samples_told, payload_bytes};
 ghost use Rattle.sample_binder.specs.Runs.{cut};
 ghost use Rattle.sample_binder.specs.Readings.{AreReleases, AreAllReleases, IsDueEvent, AreStretches, IsRead};
 ghost use Rattle.sample_binder.specs.Given.{IsDataOf, HasDataSize};
@@ -100,4 +100,16 @@ pub fn events_are_all_releases()
 pub fn packets_are_sound()
     ensures sampling { (rec : ContextRec) → IsInGrammar rec → HasSampling rec.fields }
     ensures size { (profile : PacketProfile) (bytes : List ℕ) → IsDataOf profile bytes → HasDataSize bytes }
+{}
+
+/// A law that a proof can cite. Where the packet of each call is one of its kind, a stream tells no
+/// more samples than the payloads that it was given have bytes.
+#[inline]
+pub fn samples_are_at_most_bytes()
+    ensures arriving { (profile : PacketProfile) (limits : Limits) (calls : List Call)
+        → AreCallsOf profile calls → is_told calls ≡ false
+        → samples_told (outputs_of limits calls) ≤ payload_bytes calls }
+    ensures ending { (profile : PacketProfile) (limits : Limits) (calls : List Call)
+        → AreCallsOf profile calls → is_told calls ≡ false
+        → samples_told (outputs_of limits (calls ++ EndCall ∷ [])) ≤ payload_bytes calls }
 {}
