@@ -27,8 +27,9 @@ pub record IsCancel (profile : PacketProfile) (packet : Cancel) (words : List �
   pub content : drop (command_words (front_of packet)) words ≡ packet.named ∷ []
 
 -- these are the words of the cancellation
-abbrev pub AreWordsOf : PacketProfile → Cancel → List ℕ → Type 0
-AreWordsOf profile packet words = AreWords words × IsCancel profile packet words
+pub record AreWordsOf (profile : PacketProfile) (packet : Cancel) (words : List ℕ) : Type 0 where
+  pub are_words : AreWords words
+  pub told : IsCancel profile packet words
 
 -- words can spell the cancellation
 abbrev pub IsSpelled : PacketProfile → Cancel → Type 0

@@ -45,8 +45,9 @@ pub record IsControl (profile : PacketProfile) (packet : Control) (words : List 
   pub content : IsContent packet (drop (command_words (front_of packet)) words)
 
 -- these are the words of the command
-abbrev pub AreWordsOf : PacketProfile → Control → List ℕ → Type 0
-AreWordsOf profile packet words = AreWords words × IsControl profile packet words
+pub record AreWordsOf (profile : PacketProfile) (packet : Control) (words : List ℕ) : Type 0 where
+  pub are_words : AreWords words
+  pub told : IsControl profile packet words
 
 -- words can spell the command
 abbrev pub IsSpelled : PacketProfile → Control → Type 0
