@@ -9,8 +9,8 @@ use Rattle.vrt_header.specs.Profile.{PacketProfile}
 use Rattle.cam_field.specs.declared.modes.Role.TheVariants as roles
 use Rattle.command_prologue.specs.CommandPrologue.{IsCommandPrologue, IsContentSize, command_words}
 use Rattle.command_prologue.proofs.CommandPrologueLaws.{one_answer, command_length}
-use Rattle.command_prologue.specs.Growing.{AreGrown}
-use Rattle.command_prologue.proofs.GrowingLaws.{refused_datagram, refused_datagram_in_front}
+use Rattle.vrt_words.specs.Growing.{AreGrown}
+use Rattle.vrt_words.proofs.GrowingLaws.{refused_datagram, refused_datagram_in_front}
 use Rattle.command_prologue.specs.declared.prologue.CommandPrologue.{CommandPrologue}
 use Rattle.ack_codec.specs.Ack.{front_of, kind_bit, IsContent, IsAck}
 use Rattle.ack_codec.specs.Steps.{left_of, IsAckFront, IsBegunKind, IsBegun, IsCutAt}

@@ -6,8 +6,8 @@ use Rattle.vrt_words.proofs.WordLaws.{length-words_of}
 use Rattle.vrt_fields.specs.FieldSet.{IsFieldMask, number_in_mask}
 use Rattle.cam_field.specs.Spelling.{bit_of}
 use Rattle.command_prologue.specs.CommandPrologue.{IsAnswerSize}
-use Rattle.command_prologue.specs.Growing.{IsStoppedAt}
-use Rattle.command_prologue.specs.Sizes.{IsOtherSize}
+use Rattle.vrt_words.specs.Growing.{IsStoppedAt}
+use Rattle.vrt_words.specs.Sizes.{IsOtherSize}
 use Rattle.ack_codec.specs.Steps.{IsBegunOne, IsBegunTwo, IsBegunNone, IsBegunReport, IsCutAt, IsMaskAt, AreReadAt}
 
 -- ---- without a mask

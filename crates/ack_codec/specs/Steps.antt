@@ -6,7 +6,7 @@ use Rattle.vrt_fields.specs.declared.field.Field.{Field}
 use Rattle.cam_field.specs.Cam.{IsForRole}
 use Rattle.cam_field.specs.declared.modes.Role.TheVariants as roles
 use Rattle.command_prologue.specs.CommandPrologue.{IsContentSize, command_words}
-use Rattle.command_prologue.specs.Growing.{IsStoppedAt}
+use Rattle.vrt_words.specs.Growing.{IsStoppedAt}
 use Rattle.command_prologue.specs.declared.prologue.CommandPrologue.{CommandPrologue}
 use Rattle.ack_codec.specs.Ack.{front_of, kind_bit, AreAnnounced, report_words, IsContent}
 use Rattle.ack_codec.specs.declared.responses.Responses.{Responses}

@@ -11,10 +11,10 @@ use crate::ack::{Ack, AckState};
 use crate::mask::spread_at;
 use crate::reports::read_report;
 use cam_field::Role;
-use command_prologue::{CommandPrologue, check_size, read_command_prologue};
+use command_prologue::{CommandPrologue, read_command_prologue};
 use vrt_fields::FieldSet;
 use vrt_header::Profile;
-use vrt_words::Place;
+use vrt_words::{Place, check_size};
 
 /// The acknowledgement that a datagram is.
 ///

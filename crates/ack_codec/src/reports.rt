@@ -10,9 +10,9 @@ use crate::ack::{Ack, AckReport};
 use crate::listing::read_responses;
 use crate::mask::listing_at;
 use crate::responses::Responses;
-use command_prologue::{CommandPrologue, check_size};
+use command_prologue::CommandPrologue;
 use vrt_fields::mask_number;
-use vrt_words::Place;
+use vrt_words::{Place, check_size};
 
 /// The warnings and errors that are told behind this front.
 pub(crate) fn read_report(front: &CommandPrologue, bytes: &[u8]) -> Result<Ack, Place>

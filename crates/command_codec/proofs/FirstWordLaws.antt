@@ -10,8 +10,8 @@ use Rattle.vrt_header.specs.Profile.{PacketProfile}
 use Rattle.cam_field.specs.declared.modes.Role.{Role}
 use Rattle.command_prologue.specs.CommandPrologue.{IsCommandPrologue, command_words}
 use Rattle.command_prologue.proofs.CommandPrologueLaws.{one_before, command_length}
-use Rattle.command_prologue.specs.Growing.{AreGrown, IsStoppedAt}
-use Rattle.command_prologue.proofs.GrowingLaws.{refused_datagram, refused_datagram_in_front}
+use Rattle.vrt_words.specs.Growing.{AreGrown, IsStoppedAt}
+use Rattle.vrt_words.proofs.GrowingLaws.{refused_datagram, refused_datagram_in_front}
 use Rattle.command_prologue.specs.declared.prologue.CommandPrologue.{CommandPrologue}
 use Rattle.command_codec.specs.FirstWord.{AreByFirst, IsCut, missing, wrong, other}
 

@@ -4,7 +4,7 @@ use Rattle.vrt_words.specs.Words.{words_of, AreWords}
 use Rattle.vrt_header.specs.Profile.{PacketProfile}
 use Rattle.cam_field.specs.declared.modes.Role.{Role}
 use Rattle.command_prologue.specs.CommandPrologue.{IsCommandPrologue, command_words}
-use Rattle.command_prologue.specs.Sizes.{IsOtherSize}
+use Rattle.vrt_words.specs.Sizes.{IsOtherSize}
 use Rattle.command_prologue.specs.declared.prologue.CommandPrologue.{CommandPrologue}
 
 -- what a packet has: its prologue, its size, and the word behind the prologue

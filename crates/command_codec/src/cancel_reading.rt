@@ -10,10 +10,10 @@ ghost use Rattle.command_codec.specs.FirstWord.{IsCut};
 
 use crate::cancel::Cancel;
 use cam_field::Role;
-use command_prologue::{CommandPrologue, check_size, read_command_prologue};
+use command_prologue::{CommandPrologue, read_command_prologue};
 use vrt_fields::is_field_mask;
 use vrt_header::Profile;
-use vrt_words::{Place, word_or_place};
+use vrt_words::{Place, check_size, word_or_place};
 
 /// The cancellation that a datagram is.
 ///

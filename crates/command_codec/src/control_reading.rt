@@ -9,10 +9,10 @@ ghost use Rattle.command_codec.specs.Steps.{IsAsked, IsFollowed};
 
 use crate::control::Control;
 use cam_field::{Action, Role};
-use command_prologue::{CommandPrologue, check_size, read_command_prologue};
+use command_prologue::{CommandPrologue, read_command_prologue};
 use vrt_fields::{FieldSet, is_field_mask, mask_width};
 use vrt_header::Profile;
-use vrt_words::{Place, word_or_place};
+use vrt_words::{Place, check_size, word_or_place};
 
 /// The command that a datagram is.
 ///

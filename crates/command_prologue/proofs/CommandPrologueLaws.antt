@@ -30,8 +30,8 @@ use Rattle.cam_field.specs.declared.modes.Timing.TheVariants as timings
 use Rattle.cam_field.specs.declared.modes.Role.{Role}
 use Rattle.cam_field.specs.declared.modes.Role.TheVariants.{Control, Cancel, Ack}
 use Rattle.command_prologue.specs.CommandPrologue.{kind_of, IsIdentity, identity_words, IsContentSize, IsMode, IsBehind, IsPrologueOf, IsCommandPrologue, command_words}
-use Rattle.command_prologue.specs.Growing.{AreGrown}
-use Rattle.command_prologue.proofs.GrowingLaws.{refused_in_front, refused_behind, none_in_front}
+use Rattle.vrt_words.specs.Growing.{AreGrown}
+use Rattle.vrt_words.proofs.GrowingLaws.{refused_in_front, refused_behind, none_in_front}
 use Rattle.command_prologue.specs.Steps.{IsBegun, IsCutAt, AreNamed}
 use Rattle.vrt_words.specs.declared.place.Place.{Place}
 use Rattle.command_prologue.specs.declared.prologue.CommandPrologue.{CommandPrologue}

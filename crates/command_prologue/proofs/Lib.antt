@@ -1,4 +1,3 @@
-pub mod GrowingLaws
 pub mod KindLaws
 pub mod CommandPrologueLaws
 pub mod SpellingLaws

@@ -1,4 +1,2 @@
 pub mod CommandPrologue
-pub mod Growing
-pub mod Sizes
 pub mod Steps

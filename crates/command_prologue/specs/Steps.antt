@@ -5,7 +5,7 @@ use Rattle.cam_field.specs.Ident.{ident_words, ident_size}
 use Rattle.cam_field.specs.declared.cam.Cam.{Cam}
 use Rattle.cam_field.specs.declared.modes.Role.{Role}
 use Rattle.command_prologue.specs.CommandPrologue.{IsIdentity, IsMode, IsBehind, identity_words}
-use Rattle.command_prologue.specs.Growing.{IsStoppedAt}
+use Rattle.vrt_words.specs.Growing.{IsStoppedAt}
 use Rattle.command_prologue.specs.declared.prologue.CommandPrologue.{CommandPrologue}
 
 -- words behind this prologue with which a packet of the role may go on, up to the end of the identities

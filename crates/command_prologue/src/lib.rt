@@ -4,7 +4,6 @@
 #![tactic(auto)]
 
 mod identity;
-mod length;
 mod mode;
 mod prologue;
 mod reading;
@@ -13,7 +12,6 @@ mod spelling;
 #[cfg(test)]
 mod tests;
 
-pub use crate::length::check_size;
 pub use crate::prologue::CommandPrologue;
 pub use crate::reading::read_command_prologue;
 pub use crate::round_trip::one_to_one;

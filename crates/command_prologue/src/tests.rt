@@ -73,12 +73,3 @@ fn a_prologue_is_refused_at_its_first_wrong_word(rt: HostRuntime) {
     class[2] = 0x006A621F;
     assert_eq!(rt; refused_at(profile, Role::Control, &class), Some(2));
 }
-
-#[test]
-fn a_length_is_that_of_the_size_or_refused(rt: HostRuntime) {
-    let bytes = [0; 60];
-    assert!(rt; check_size(&bytes, 15) == Ok(()));
-    assert!(rt; check_size(&bytes, 16) == Err(Place { word: 15 }));
-    assert!(rt; check_size(&bytes, 14) == Err(Place { word: 14 }));
-    assert!(rt; check_size(&bytes[..59], 15) == Err(Place { word: 14 }));
-}

@@ -124,3 +124,11 @@ module _ (limit : ℕ) (contexts : List TimedContext) (t : ℕ) where
     | inl b ↦ subst (λ (o : Option TimedContext). IsMark limit contexts t (mark_next (line_of limit contexts) n o)) (sym b.2) (next_told n b.0 h b.2 b.1)
     | inr none ↦ subst (λ (o : Option TimedContext). IsMark limit contexts t (mark_next (line_of limit contexts) n o)) (sym none.1) (none_after n h none.0)
   ]
+
+-- what the mark of a line says of all contexts of which it is the line
+pub IsMark-mark_in : (limit : ℕ) (contexts : List TimedContext) (t : ℕ) → IsRising (moments (keep_last limit contexts))
+    → IsMark limit contexts t (mark_in (line_of limit contexts) t)
+IsMark-mark_in limit contexts t rise =
+    let cut = cut_of (moments (keep_last limit contexts)) t rise in
+    let same : mark_in (line_of limit contexts) t ≡ mark_at_cut (line_of limit contexts) cut.0 = mark_in_cut (line_of limit contexts) t cut.0 cut.1 in
+    subst (λ (m : Mark). IsMark limit contexts t m) (sym same) (IsMark-cut limit contexts t cut.0 cut.1)

@@ -2,6 +2,7 @@
 //! they say of a moment: which of them is in force then, or why none is said to be.
 #![tactic(auto)]
 
+mod laws;
 mod mark;
 mod search;
 #[cfg(test)]
@@ -9,6 +10,7 @@ mod tests;
 mod timed_context;
 mod timeline;
 
+pub use crate::laws::marks_speak_of_all_contexts;
 pub use crate::mark::Mark;
 pub use crate::timed_context::TimedContext;
 pub use crate::timeline::Timeline;

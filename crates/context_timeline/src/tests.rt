@@ -146,3 +146,46 @@ fn one_loss_that_changed_nothing_is_healed(rt: HostRuntime) -> Result<(), Fail> 
     assert_eq!(rt; timeline.mark(at(4)), Mark::Lost(2));
     Ok(())
 }
+
+#[test]
+fn none_is_dropped_where_just_as_many_are_kept(rt: HostRuntime) -> Result<(), Fail> {
+    let mut timeline = Timeline::open(rt.alloc(), 2)?;
+    add(&mut timeline, 1, CHANGED, 0, 0)?;
+    add(&mut timeline, 2, CHANGED, 0, 0)?;
+    assert!(rt; !timeline.has_dropped());
+    assert_eq!(rt; timeline.mark(at(0)), Mark::BeforeFirst);
+    Ok(())
+}
+
+#[test]
+fn a_context_keeps_its_number_where_earlier_ones_are_dropped(rt: HostRuntime) -> Result<(), Fail> {
+    let mut timeline = Timeline::open(rt.alloc(), 2)?;
+    add(&mut timeline, 1, CHANGED, 0, 0)?;
+    let fields = add(&mut timeline, 2, CHANGED, 0x600, 0)?;
+    add(&mut timeline, 3, CHANGED, 0, 0)?;
+    assert!(rt; timeline.has_dropped());
+    let just_before = Moment::of(1_700_000_001_999_999_999_999);
+    assert_eq!(rt; timeline.mark(just_before), Mark::TimelineFull);
+    assert_eq!(rt; timeline.mark(at(2)), Mark::Bound { place: 1, fields });
+    Ok(())
+}
+
+#[test]
+fn a_moment_just_below_the_horizon_is_not_open(rt: HostRuntime) -> Result<(), Fail> {
+    let mut timeline = Timeline::open(rt.alloc(), 4)?;
+    add(&mut timeline, 1, CHANGED, 0, 0)?;
+    let just_before = Moment::of(1_700_000_000_999_999_999_999);
+    assert_eq!(rt; timeline.mark(just_before), Mark::BeforeFirst);
+    assert_eq!(rt; timeline.mark(at(1)), Mark::Open);
+    Ok(())
+}
+
+#[test]
+fn fifteen_contexts_lost_are_told(rt: HostRuntime) -> Result<(), Fail> {
+    let mut timeline = Timeline::open(rt.alloc(), 4)?;
+    add(&mut timeline, 1, CHANGED, 0, 0)?;
+    add(&mut timeline, 2, UNCHANGED, 0, 15)?;
+    let just_before = Moment::of(1_700_000_001_999_999_999_999);
+    assert_eq!(rt; timeline.mark(just_before), Mark::Lost(15));
+    Ok(())
+}

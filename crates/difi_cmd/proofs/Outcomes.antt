@@ -1,5 +1,5 @@
 -- Between two reads, and what a run comes to.
-use Rattle.std.proofs.Common.{◌≡◌, ℕ, ◌+◌, ◌-◌, ◌<◌, ◌≤◌, ◌^◌, inl, inr, min, false, List, [], ◌++◌, length, take, Option, refl, sym, ap, ◌∙◌, subst, append-nil, length-append, take_all, arith}
+use Rattle.std.proofs.Common.{◌≡◌, ℕ, ◌+◌, ◌-◌, ◌<◌, ◌≤◌, ◌^◌, inl, inr, min, Bool, true, false, List, [], ◌++◌, length, take, Option, refl, sym, ap, ◌∙◌, subst, append-nil, length-append, take_all, arith}
 use Rattle.std.specs.Prelude.{Err}
 use Rattle.std.specs.Io.KnownBytes.{Consumes, IsAtEnd, Keeps}
 use Rattle.std.proofs.KnownBytes.{Consumes-trans, Consumes-kept, Consumes-nil, Appends-nil}
@@ -16,6 +16,7 @@ use Rattle.difi_cmd.specs.declared.status.Status.TheVariants.{Done, Usage, ReadF
 use Rattle.difi_texts.specs.Lines.{entries}
 use Rattle.difi_cmd.specs.Text.{IsPart}
 use Rattle.difi_cmd.specs.Outcome.{HasNoFault, HasFaultAt, Reads, TakesTooMany, IsOutcome}
+use Rattle.difi_cmd.specs.Progress.{IsSent}
 use Rattle.difi_cmd.specs.Steps.{IsStanding, IsCounted, IsAlong, IsTold, IsEnded}
 use Rattle.difi_cmd.proofs.Texts.{sent_whole}
 use Rattle.difi_cmd.proofs.Feeding.{place_of, no_fault, part_so_far}
@@ -72,6 +73,16 @@ judged taken piece most more count room =
     ap (λ n. take n (taken ++ take count piece)) (sym room) ∙ take-append-add taken (take count piece) more
     ∙ ap (λ l. taken ++ l) (take_least more count piece)
 
+-- no write failed
+sent_kept : (failed : Bool) (start held : Option (List ℕ)) (before now : ℕ) (waiting text : List ℕ) → failed ≡ false → IsSent failed start held before now waiting text → now ≡ before
+sent_kept false start held before now waiting text e sent = sent.1.1.1
+sent_kept true start held before now waiting text e sent = cc
+
+pub writes_kept : (line : Line) (reader : Reading) (report : Report) (more : ℕ) (left left' held held' : Option (List ℕ)) (write write' : ℕ)
+    → IsAtRead line reader report more left left' held held' write write' → write' ≡ write
+writes_kept line reader report more left left' held held' write write' at =
+    let a = at.along in sent_kept report.failed held held' write write' report.text (entries 1 a.1.0) at.written a.1.1.1.sent
+
 pub read_stopped : (line : Line) (reader : Reading) (report : Report) (more : ℕ) (left left' left'' held held' : Option (List ℕ)) (write write' : ℕ)
     → IsAtRead line reader report more left left' held held' write write' → Keeps left' left'' → Reads line left left'' held held'
 read_stopped line reader report more left left' left'' held held' write write' at keeps =
@@ -87,9 +98,12 @@ read_stopped line reader report more left left' left'' held held' write write' a
 
 -- the bytes that were just read, of which the first ones may be judged
 module _ (line : Line) (reader : Reading) (report : Report) (more : ℕ) (left left' left'' held held' held'' : Option (List ℕ)) (write write' write'' : ℕ)
-    (at : IsAtRead line reader report more left left' held held' write write') (piece : List ℕ) (count : ℕ) (read : Consumes left' left'' (take count piece)) where
+    (at : IsAtRead line reader report more left left' held held' write write') (piece : List ℕ) (count : ℕ) (read : Consumes left' left'' (take count piece)) (few : count ≤ more + 1) where
   all_taken : Consumes left left'' (at.taken ++ take count piece)
   all_taken = Consumes-trans left left' left'' at.taken (take count piece) at.consumed read
+
+  few_taken : length (at.taken ++ take count piece) ≤ line.max_bytes + 1
+  few_taken = omega (arith, at.room, few, length-append at.taken (take count piece), length-take count piece)
 
   are_judged : take line.max_bytes (at.taken ++ take count piece) ≡ at.taken ++ take (min count more) piece
   are_judged = judged at.taken piece line.max_bytes more count at.room
@@ -101,6 +115,7 @@ module _ (line : Line) (reader : Reading) (report : Report) (more : ℕ) (left l
   stopped (BadRecord offset) read_before read_now reader' report' listing told = record {
     bytes = at.taken ++ take count piece;
     taken = all_taken;
+    few = few_taken;
     bad = inl (subst (λ l. HasFaultAt l offset) (sym are_judged) told.1.0.0);
     text = told.0;
     part = subst (λ l. IsPart line.listing l told.0) (sym are_judged) (subst (λ (l : Listing). IsPart l (at.taken ++ take (min count more) piece) told.0) (listing ∙ at.listing) told.1.0.1);
@@ -111,6 +126,7 @@ module _ (line : Line) (reader : Reading) (report : Report) (more : ℕ) (left l
     record {
       bytes = at.taken ++ take count piece;
       taken = all_taken;
+      few = few_taken;
       text = told.0;
       so_far = inl (subst (λ l. IsPart line.listing l told.0) (sym are_judged) (subst (λ (l : Listing). IsPart l (at.taken ++ take (min count more) piece) told.0) (listing ∙ at.listing) told.1.0));
       number = told.1.1.0;
@@ -130,6 +146,7 @@ module _ (line : Line) (reader : Reading) (report : Report) (more : ℕ) (left l
   too_many reader' report' listing stands written empty over there a = record {
     bytes = at.taken ++ take count piece;
     taken = all_taken;
+    few = few_taken;
     longer = record {
       more = omega (arith, at.room, length-append at.taken (take count piece), length-take-le count piece there);
       sound = subst HasNoFault (sym are_judged) (no_fault reader' (at.taken ++ take (min count more) piece) a.0 stands.sound a.1.1.0);
@@ -175,10 +192,11 @@ module _ (line : Line) (reader : Reading) (report : Report) (more : ℕ) (left l
 
     over : (status : Status) (read_before read_now : ℕ) → IsEnded status line.listing held held'' write write'' at.taken → IsOutcome status line read_before read_now write write'' left left'' held held''
     over Done b n o = record { bytes = at.taken; taken = consumed; at_end = end; within = within; text = o.0; output = o.1.0; written = o.1.1 }
-    over WriteFault b n o = (o.1.1.1.1, record { bytes = at.taken; taken = consumed; text = o.0; so_far = inr (within, (end, o.1.0)); number = o.1.1.0; written = o.1.1.1.0 })
+    over WriteFault b n o = (o.1.1.1.1, record { bytes = at.taken; taken = consumed; few = omega (arith, within); text = o.0; so_far = inr (within, (end, o.1.0)); number = o.1.1.0; written = o.1.1.1.0 })
     over (BadRecord offset) b n o = record {
       bytes = at.taken;
       taken = consumed;
+      few = omega (arith, within);
       bad = elim o.0 [
         | inl fault ↦ inl (subst (λ l. HasFaultAt l offset) (sym whole) fault)
         | inr ends ↦ inr (within, (end, ends))

@@ -1,5 +1,5 @@
 -- What a call did with its source and its sink, and the status that bytes give.
-use Rattle.std.specs.Prelude.{◌≡◌, ℕ, ◌<◌, ◌≤◌, ◌⊎◌, List, length, take, Option}
+use Rattle.std.specs.Prelude.{◌≡◌, ℕ, ◌+◌, ◌<◌, ◌≤◌, ◌⊎◌, List, length, take, Option}
 use Rattle.std.specs.Io.KnownBytes.{Consumes, IsAtEnd, Appends}
 use Rattle.difi_io.specs.Faults.{Rose}
 use Rattle.replay_form.specs.HeadFields.{IsHeadPart}
@@ -44,8 +44,8 @@ IsVerdict most bytes ReadFault = ⊥
 IsVerdict most bytes WriteFault = ⊥
 IsVerdict most bytes Memory = ⊥
 
--- A line was run between what the source had left and has left, and what the sink held and holds. A read failed behind bytes in
--- which nothing is wrong, and the text of their frames was written
+-- A line was run between what the source had left and has left, and what the sink held and holds; at most one byte more was taken
+-- than may be judged. A read failed behind bytes in which nothing is wrong, and the text of their frames was written
 pub record Reads (line : Line) (left left' held held' : Option (List ℕ)) : Type 0 where
   pub bytes : List ℕ
   pub taken : Consumes left left' bytes
@@ -59,6 +59,7 @@ pub record Reads (line : Line) (left left' held held' : Option (List ℕ)) : Typ
 pub record TakesTooMany (line : Line) (left left' held held' : Option (List ℕ)) : Type 0 where
   pub bytes : List ℕ
   pub taken : Consumes left left' bytes
+  pub few : length bytes ≤ line.max_bytes + 1
   pub longer : IsLonger line.max_bytes bytes
   pub text : List ℕ
   pub part : IsPart line.listing (take line.max_bytes bytes) text
@@ -72,6 +73,7 @@ IsBadSoFar most bytes offset left' =
 pub record TakesBad (line : Line) (offset : ℕ) (left left' held held' : Option (List ℕ)) : Type 0 where
   pub bytes : List ℕ
   pub taken : Consumes left left' bytes
+  pub few : length bytes ≤ line.max_bytes + 1
   pub bad : IsBadSoFar line.max_bytes bytes offset left'
   pub text : List ℕ
   pub part : IsPart line.listing (take line.max_bytes bytes) text
@@ -95,14 +97,16 @@ IsTextSoFar line bytes text left' =
 pub record WritesFront (line : Line) (left left' held held' : Option (List ℕ)) : Type 0 where
   pub bytes : List ℕ
   pub taken : Consumes left left' bytes
+  pub few : length bytes ≤ line.max_bytes + 1
   pub text : List ℕ
   pub so_far : IsTextSoFar line bytes text left'
   pub number : ℕ
   pub written : Appends held held' (take number text)
 
--- one line a status
+-- one line a status; where a read failed, no write did
 abbrev pub IsOutcome : Status → Line → ℕ → ℕ → ℕ → ℕ → Option (List ℕ) → Option (List ℕ) → Option (List ℕ) → Option (List ℕ) → Type 0
-IsOutcome ReadFault line read read' write write' left left' held held' = Rose read read' × Reads line left left' held held'
+IsOutcome ReadFault line read read' write write' left left' held held' =
+    Rose read read' × ((write' ≡ write) × Reads line left left' held held')
 IsOutcome TooLong line read read' write write' left left' held held' = TakesTooMany line left left' held held'
 IsOutcome (BadRecord offset) line read read' write write' left left' held held' = TakesBad line offset left left' held held'
 IsOutcome WriteFault line read read' write write' left left' held held' = Rose write write' × WritesFront line left left' held held'

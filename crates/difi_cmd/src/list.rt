@@ -34,6 +34,7 @@ pub(crate) fn list<S: Source, K: Sink>(
         (K.faults sink.old) (K.faults sink.new) (S.left source.old) (S.left source.new) (K.held sink.old) (K.held sink.new) }
     ensures untouched { result ≡ Status.Memory → (source.new ≡ source.old) × (sink.new ≡ sink.old) }
     ensures read_fault { result ≡ Status.ReadFault → Rose (S.faults source.old) (S.faults source.new)
+        × (K.faults sink.new ≡ K.faults sink.old)
         × Reads line (S.left source.old) (S.left source.new) (K.held sink.old) (K.held sink.new) }
     ensures too_long { result ≡ Status.TooLong →
         TakesTooMany line (S.left source.old) (S.left source.new) (K.held sink.old) (K.held sink.new) }

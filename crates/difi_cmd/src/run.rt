@@ -34,7 +34,7 @@ pub fn difi_run<R: Threads + Sync, S: Source + Send, K: Sink + Send, G: Gate + S
 
     // The cause of each other status, with the bytes taken and what was written.
     ensures read_fault { result ≡ Status.ReadFault → Rose (S.faults source.old) (S.faults source.new)
-        × (line : Line) × Asks words.now line
+        × (K.faults sink.new ≡ K.faults sink.old) × (line : Line) × Asks words.now line
         × Reads line (S.left source.old) (S.left source.new) (K.held sink.old) (K.held sink.new) }
     ensures too_long { result ≡ Status.TooLong → (line : Line) × Asks words.now line
         × TakesTooMany line (S.left source.old) (S.left source.new) (K.held sink.old) (K.held sink.new) }

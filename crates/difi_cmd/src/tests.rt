@@ -2,53 +2,12 @@ use super::*;
 use difi_io::{MemSink, MemSource, NoGate};
 use std::alloc::{AllocError, Global};
 use std::test::Fail;
+use test_records::{BASE, datagram, push_frame, routed};
 
-/// A context packet of stream 1.
-const CONTEXT: [u32; 27] = [
-    0x4960_001B,
-    1,
-    0x6A_621E,
-    1,
-    0x6553_F100,
-    0,
-    0,
-    0xFBB9_8000,
-    0x64,
-    0x44,
-    0x5C00_0000,
-    0x42C1,
-    0xD800_0000,
-    0x4_7868,
-    0xC000_0000,
-    0,
-    0,
-    0,
-    0x500,
-    0x55,
-    0x7300_0000,
-    0,
-    0,
-    0,
-    0xC00C_0000,
-    0xA000_03CF,
-    0,
-];
-
-/// A record with no route and a frame with this datagram.
-fn record_of(alloc: Global, datagram: &[u32; 27]) -> Result<Vec<u8>, AllocError> {
-    let mut bytes = Vec::from_slice(alloc, b"DIFIREC1")?;
-    for number in [0x6A_621E_u32, 1, 400, 0, 0, 4, 8, 0, 0, 0, 0, 0, 0] {
-        bytes.extend_from_slice(&number.to_be_bytes())?;
-    }
-    for word in &CONTEXT[8..] {
-        bytes.extend_from_slice(&word.to_be_bytes())?;
-    }
-    bytes.extend_from_slice(&[0; 196])?;
-    bytes.extend_from_slice(&[0; 16])?;
-    bytes.extend_from_slice(&108_u32.to_be_bytes())?;
-    for word in datagram {
-        bytes.extend_from_slice(&word.to_be_bytes())?;
-    }
+/// A record with a frame of a context packet of stream 1.
+fn record(alloc: Global) -> Result<Vec<u8>, AllocError> {
+    let mut bytes = datagram(alloc, &routed())?;
+    push_frame(&mut bytes, datagram(alloc, &BASE)?.as_slice())?;
     Ok(bytes)
 }
 
@@ -80,7 +39,7 @@ fn other_words_are_refused(rt: HostRuntime) -> Result<(), Fail> {
 fn a_context_has_its_line_and_the_record_its_last(rt: HostRuntime) -> Result<(), Fail> {
     let alloc = rt.alloc();
     let words = [String::from_str(alloc, "check")?];
-    let mut source = MemSource::new(record_of(alloc, &CONTEXT)?, 7, Vec::new(alloc));
+    let mut source = MemSource::new(record(alloc)?, 7, Vec::new(alloc));
     let mut sink = MemSink::new(alloc, 100, 10, Vec::new(alloc))?;
     let status = difi_run(&rt, alloc, &words, &mut source, &mut sink, &NoGate::new());
     assert_eq!(rt; status, Status::Done);
@@ -93,7 +52,7 @@ fn a_context_has_its_line_and_the_record_its_last(rt: HostRuntime) -> Result<(),
 fn a_context_is_shown(rt: HostRuntime) -> Result<(), Fail> {
     let alloc = rt.alloc();
     let words = [String::from_str(alloc, "show")?];
-    let mut source = MemSource::new(record_of(alloc, &CONTEXT)?, 7, Vec::new(alloc));
+    let mut source = MemSource::new(record(alloc)?, 7, Vec::new(alloc));
     let mut sink = MemSink::new(alloc, 1000, 10, Vec::new(alloc))?;
     let status = difi_run(&rt, alloc, &words, &mut source, &mut sink, &NoGate::new());
     assert_eq!(rt; status, Status::Done);

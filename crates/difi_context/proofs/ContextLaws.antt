@@ -1,22 +1,21 @@
 -- Laws of context packets: the words determine them, and they are refused where a step goes wrong.
-use Rattle.std.proofs.Common.{◌≡◌, ℕ, suc, ◌+◌, ◌-◌, ◌*◌, ◌<◌, ◌≤◌, ◌==◌, Bool, true, false, List, [], ◌∷◌, ◌++◌, length, take, drop, get_or, inl, inr, refl, sym, ap, ◌∙◌, subst, append_assoc, length-append, length-drop, arith}
-use Rattle.std.proofs.lemmas.Bool.{cases_lt, false≢true}
-use Rattle.std.proofs.lemmas.List.{take_at, take-append-le, take-take, take_all, get_or-take, get_or-append_right, length-take-le}
-use Rattle.std.proofs.Math.Seq.{take-append-add}
+use Rattle.std.proofs.Common.{◌≡◌, ℕ, suc, ◌+◌, ◌-◌, ◌*◌, ◌^◌, ◌<◌, ◌≤◌, ◌==◌, List, [], ◌∷◌, ◌++◌, length, take, drop, get_or, inl, inr, refl, sym, ap, ◌∙◌, subst, length-append, length-drop, arith}
+use Rattle.std.proofs.lemmas.Bool.{cases_lt}
+use Rattle.std.proofs.lemmas.List.{take_at, take_all, get_or-append_right}
 use Rattle.vrt_words.specs.Words.{words_of, bits, AreWords, AreBytes}
-use Rattle.vrt_words.specs.Begins.{Begins, IsDatagram, IsRefusedAt, IsRefused}
-use Rattle.vrt_words.proofs.WordLaws.{AreWords-append, AreWords-drop, AreWords-take, AreWords-test, words_of-words, length-words_of}
-use Rattle.vrt_words.proofs.BeginLaws.{refused_by_steps, filled, length-filled, filled_front, filled_behind, begun_words, Begins-below}
+use Rattle.vrt_words.specs.Begins.{IsDatagram, IsRefusedAt, IsRefused}
+use Rattle.vrt_words.proofs.WordLaws.{AreWords-test, length-words_of}
+use Rattle.vrt_words.specs.Growing.{AreGrown, IsStoppedAt}
+use Rattle.vrt_words.proofs.GrowingLaws.{refused_datagram, refused_datagram_in_front}
+use Rattle.vrt_words.proofs.BeginLaws.{behind_front, length-behind, row_behind, one_more_before, one_more_last}
 use Rattle.vrt_header.specs.Profile.{PacketProfile}
-use Rattle.vrt_header.specs.Header.{IsKind, IsTimed, prologue_words}
-use Rattle.vrt_header.specs.Prologue.{IsPrologue}
-use Rattle.vrt_header.proofs.PrologueLaws.{one_prologue}
-use Rattle.vrt_header.specs.declared.header.Kind.{Kind}
+use Rattle.vrt_header.specs.Prologue.{IsPrologueOf}
+use Rattle.vrt_header.proofs.KindLaws.{one_of_kind, seven_words}
 use Rattle.vrt_header.specs.declared.header.Kind.TheVariants.{Context}
 use Rattle.vrt_header.specs.declared.prologue.Prologue.{Prologue}
 use Rattle.vrt_fields.specs.Format.{IsFormatFirst, IsFormatSecond}
 use Rattle.vrt_fields.proofs.FormatLaws.{sixteen_bits_first}
-use Rattle.difi_context.specs.Context.{IsRate, IsContext, fields_bits}
+use Rattle.difi_context.specs.Context.{IsContext, fields_bits}
 use Rattle.difi_context.specs.Steps.{IsRight, IsWrongAt, IsBehind}
 use Rattle.difi_context.specs.declared.context.ContextRec.{ContextRec}
 
@@ -26,278 +25,173 @@ same_context a b p q r = grind arith
 -- words spell one context
 pub one_context : (profile : PacketProfile) (a b : ContextRec) (words : List ℕ) → IsContext profile a words → IsContext profile b words → a ≡ b
 one_context profile a b words p q =
-    same_context a b (one_prologue profile a.prologue b.prologue (take 7 words) p.prologue q.prologue) (p.changed ∙ sym q.changed) (p.fields ∙ sym q.fields)
+    same_context a b (one_of_kind profile Context a.prologue b.prologue (take 7 words) p.prologue q.prologue) (p.changed ∙ sym q.changed) (p.fields ∙ sym q.fields)
 
--- ---- the packet type
+-- ---- what goes on behind the prologue
 
-context_of_type : (kind : Kind) (word : ℕ) → IsKind kind word → bits word 28 4 ≡ 4 → kind ≡ Context
-context_of_type Context word p e = refl
-context_of_type kind word p e = absurd (omega arith)
-
-timed_of_context : (tsi : ℕ) (timed : Bool) (word : ℕ) → IsTimed tsi Context timed word → timed ≡ true
-timed_of_context tsi true word p = refl
-timed_of_context tsi false word p = absurd (false≢true p.0)
-
--- the prologue of a context has a stamp
-pub context_timed : (profile : PacketProfile) (p : Prologue) (words : List ℕ) → IsPrologue profile p words → p.header.kind ≡ Context → p.header.timed ≡ true
-context_timed profile p words h kind =
-    timed_of_context profile.tsi p.header.timed (get_or words 0 0) (subst (λ (k : Kind). IsTimed profile.tsi k p.header.timed (get_or words 0 0)) kind h.header.time)
-
--- a prologue with the packet type of contexts is one of a context, and has seven words
-pub prologue_of_type : (profile : PacketProfile) (p : Prologue) (words : List ℕ) → IsPrologue profile p words → bits (get_or words 0 0) 28 4 ≡ 4
-    → (p.header.kind ≡ Context) × (p.header.timed ≡ true)
-prologue_of_type profile p words h e =
-    let kind = context_of_type p.header.kind (get_or words 0 0) h.header.kind e in
-    (kind, context_timed profile p words h kind)
-
--- a context has the packet type of contexts
-pub type_of_context : (profile : PacketProfile) (v : ContextRec) (words : List ℕ) → IsContext profile v words → bits (get_or words 0 0) 28 4 ≡ 4
-type_of_context profile v words h =
-    let kind = subst (λ (k : Kind). IsKind k (get_or (take 7 words) 0 0)) h.kind h.prologue.header.kind in
-    ap (λ w. bits w 28 4) (sym (get_or-take 7 words 0 0 (omega arith))) ∙ kind.packet_type
-
--- ---- what a context's words are
-
--- a context's words are right
-pub context_right : (profile : PacketProfile) (v : ContextRec) (words : List ℕ) (k : ℕ) → IsContext profile v words → k ≤ 27 → IsRight words k
-context_right profile v words k h le = record {
-  cif0 = λ _. h.cif0;
-  rate_high = λ _. h.rate.positive;
-  rate_low = λ _. h.rate.least;
-  format_first = λ _. h.format_first;
-  format_second = λ _. h.format_second;
-  size = le;
-}
-
-right_agree : (xs ys : List ℕ) (k : ℕ) → ((i : ℕ) → i < k → get_or xs i 0 ≡ get_or ys i 0) → IsRight xs k → IsRight ys k
-right_agree xs ys k same r = record {
-  cif0 = λ h. subst (λ w. bits w 0 31 ≡ fields_bits) (same 7 h) (r.cif0 h);
-  rate_high = λ h. omega (arith, same 19 h, r.rate_high h);
-  rate_low = λ h. omega (arith, same 19 (omega arith), same 20 h, r.rate_low h);
-  format_first = λ h. subst IsFormatFirst (same 25 h) (r.format_first h);
-  format_second = λ h. subst IsFormatSecond (same 26 h) (r.format_second h);
-  size = r.size;
-}
-
-pub IsRight-below : (words : List ℕ) (j k : ℕ) → j ≤ k → IsRight words k → IsRight words j
-IsRight-below words j k le r = record {
-  cif0 = λ h. r.cif0 (omega arith);
-  rate_high = λ h. r.rate_high (omega arith);
-  rate_low = λ h. r.rate_low (omega arith);
-  format_first = λ h. r.format_first (omega arith);
-  format_second = λ h. r.format_second (omega arith);
-  size = omega (arith, r.size);
-}
-
--- words that begin a context are right
-begun_right : (profile : PacketProfile) (words : List ℕ) (w : ℕ) → w < length words → Begins (IsContext profile) words w → IsRight words (suc w)
-begun_right profile words w there b =
-    let xs = take (suc w) words ++ b.1.0 in
-    let long : suc w ≤ 27 = omega (arith, b.1.1.1.all, length-append (take (suc w) words) b.1.0, length-take-le (suc w) words there) in
-    right_agree xs words (suc w) (λ i lt. begun_words w words b.1.0 i there (omega arith)) (context_right profile b.0 xs (suc w) b.1.1.1 long)
-
--- words that begin a context begin a prologue
-begun_prologue : (profile : PacketProfile) (words : List ℕ) (w : ℕ) → w < 7 → w < length words → Begins (IsContext profile) words w → Begins (IsPrologue profile) words w
-begun_prologue profile words w seven there b =
-    let front = take (suc w) words in
-    let n = 6 - w in
-    let long : length front ≡ suc w = length-take-le (suc w) words there in
-    let parts : 7 ≡ length front + n = omega (arith, long) in
-    let same : take 7 (front ++ b.1.0) ≡ front ++ take n b.1.0 =
-    ap (λ m. take m (front ++ b.1.0)) parts ∙ take-append-add front b.1.0 n in
-    (b.0.prologue, (take n b.1.0, (AreWords-take n b.1.0 b.1.1.0, subst (IsPrologue profile b.0.prologue) same b.1.1.1.prologue)))
-
--- ---- some context goes on as right words do
+-- the words behind it with which a context may go on
+pub record IsBegun (p : Prologue) (words : List ℕ) : Type 0 where
+  pub cif0 : 0 < length words → bits (get_or words 0 0) 0 31 ≡ fields_bits
+  pub rate_high : 12 < length words → get_or words 12 0 < 2 ^ 31
+  pub rate_low : 13 < length words → 2 ^ 20 ≤ get_or words 12 0 * 2 ^ 32 + get_or words 13 0
+  pub format_first : 18 < length words → IsFormatFirst (get_or words 18 0)
+  pub format_second : 19 < length words → IsFormatSecond (get_or words 19 0)
+  pub size : length words ≤ 20
 
 -- words of a context behind its prologue, each right behind any in front of it
-abbrev pub plain : List ℕ
+abbrev plain : List ℕ
 plain = 0x7BB98000 ∷ 0 ∷ 0 ∷ 0 ∷ 0 ∷ 0 ∷ 0 ∷ 0 ∷ 0 ∷ 0 ∷ 0 ∷ 0 ∷ 0 ∷ 1048576 ∷ 0 ∷ 0 ∷ 0 ∷ 0 ∷ 0xA00003CF ∷ 0 ∷ []
 
 AreWords-plain : AreWords plain
 AreWords-plain = AreWords-test plain refl
 
-context_in : Prologue → List ℕ → ContextRec
+next_begun : (p : Prologue) (words : List ℕ) → length words < 20 → IsBegun p words → IsBegun p (words ++ get_or plain (length words) 0 ∷ [])
+next_begun p words less b =
+    let x = get_or plain (length words) 0 in
+    let xs = words ++ x ∷ [] in
+    let long : length xs ≡ length words + 1 = length-append words (x ∷ []) in
+    let kept : (j : ℕ) → j < length words → get_or xs j 0 ≡ get_or words j 0 = λ j h. one_more_before words x j h in
+    let last : (j : ℕ) → j ≡ length words → get_or xs j 0 ≡ get_or plain j 0 = λ j e. one_more_last words x j e ∙ ap (λ n. get_or plain n 0) (sym e) in
+    record {
+      cif0 = λ h. elim (cases_lt 0 (length words)) [
+        | inl old ↦ ap (λ w. bits w 0 31) (kept 0 old) ∙ b.cif0 old
+        | inr new ↦ ap (λ w. bits w 0 31) (last 0 (omega arith))
+      ];
+      rate_high = λ h. elim (cases_lt 12 (length words)) [
+        | inl old ↦ omega (arith, kept 12 old, b.rate_high old)
+        | inr new ↦ omega (arith, last 12 (omega arith))
+      ];
+      rate_low = λ h. elim (cases_lt 13 (length words)) [
+        | inl old ↦ omega (arith, kept 12 (omega arith), kept 13 old, b.rate_low old)
+        | inr new ↦ omega (arith, last 13 (omega arith))
+      ];
+      format_first = λ h. elim (cases_lt 18 (length words)) [
+        | inl old ↦ subst IsFormatFirst (sym (kept 18 old)) (b.format_first old)
+        | inr new ↦ subst IsFormatFirst (sym (last 18 (omega arith))) sixteen_bits_first
+      ];
+      format_second = λ h. elim (cases_lt 19 (length words)) [
+        | inl old ↦ kept 19 old ∙ b.format_second old
+        | inr new ↦ last 19 (omega arith)
+      ];
+      size = omega arith;
+    }
+
+abbrev context_in : Prologue → List ℕ → ContextRec
 context_in p words = record { prologue = p; changed = bits (get_or words 7 0) 31 1 == 1; fields = drop 8 words }
 
--- a prologue of a context and plain words behind it
-plain_context : (profile : PacketProfile) (p : Prologue) (xs : List ℕ) → IsPrologue profile p xs → p.header.kind ≡ Context → p.header.timed ≡ true
-    → IsContext profile (context_in p (xs ++ plain)) (xs ++ plain)
-unfolding context_in
-plain_context profile p xs h kind timed =
-    let seven : length xs ≡ 7 = h.all ∙ ap prologue_words timed in
-    let at : (i : ℕ) → 7 ≤ i → get_or (xs ++ plain) i 0 ≡ get_or plain (i - 7) 0 = λ i le. get_or-append_right xs plain 7 i 0 seven le in
+whole : (profile : PacketProfile) (p : Prologue) (front words : List ℕ) → IsPrologueOf profile Context p front → IsBegun p words → length words ≡ 20
+    → IsContext profile (context_in p (front ++ words)) (front ++ words)
+whole profile p front words is b all =
+    let seven = seven_words profile Context p front refl is in
+    let at : (j : ℕ) → get_or (front ++ words) (7 + j) 0 ≡ get_or words j 0 = λ j.
+    let back : (7 + j) - 7 ≡ j = omega arith in
+    get_or-append_right front words 7 (7 + j) 0 seven (omega arith) ∙ ap (λ n. get_or words n 0) back in
     record {
-      all = length-append xs plain ∙ ap (λ n. n + 20) seven;
-      prologue = subst (IsPrologue profile p) (sym (take_at xs plain 7 seven)) h;
-      kind = kind;
+      all = length-append front words ∙ omega arith;
+      prologue = subst (IsPrologueOf profile Context p) (sym (take_at front words 7 seven)) is;
       changed = refl;
-      cif0 = ap (λ w. bits w 0 31) (at 7 (omega arith));
+      cif0 = ap (λ w. bits w 0 31) (at 0) ∙ b.cif0 (omega arith);
       fields = refl;
-      rate = record { positive = omega (arith, at 19 (omega arith)); least = omega (arith, at 19 (omega arith), at 20 (omega arith)) };
-      format_first = subst IsFormatFirst (sym (at 25 (omega arith))) sixteen_bits_first;
-      format_second = at 26 (omega arith);
+      rate = record { positive = omega (arith, at 12, b.rate_high (omega arith)); least = omega (arith, at 12, at 13, b.rate_low (omega arith)) };
+      format_first = subst IsFormatFirst (sym (at 18)) (b.format_first (omega arith));
+      format_second = at 19 ∙ b.format_second (omega arith);
     }
 
--- where a prologue begins so, a context does
-pub front_begins : (profile : PacketProfile) (words : List ℕ) (w : ℕ) → w < length words → bits (get_or words 0 0) 28 4 ≡ 4
-    → Begins (IsPrologue profile) words w → Begins (IsContext profile) words w
-front_begins profile words w there type b =
-    let xs = take (suc w) words ++ b.1.0 in
-    let told = prologue_of_type profile b.0 xs b.1.1.1 (ap (λ x. bits x 28 4) (begun_words w words b.1.0 0 there (omega arith)) ∙ type) in
-    let same : xs ++ plain ≡ take (suc w) words ++ (b.1.0 ++ plain) = append_assoc (take (suc w) words) b.1.0 plain in (
-      context_in b.0 (xs ++ plain),
-      (
-        b.1.0 ++ plain,
-        (
-          AreWords-append b.1.0 plain b.1.1.0 AreWords-plain,
-          subst (IsContext profile (context_in b.0 (xs ++ plain))) same (plain_context profile b.0 xs b.1.1.1 told.0 told.1),
-        ),
-      ),
-    )
-
--- plain words with any in the places of a prologue
-abbrev plain_whole : List ℕ
-plain_whole = 0 ∷ 0 ∷ 0 ∷ 0 ∷ 0 ∷ 0 ∷ 0 ∷ plain
-
-AreWords-plain_whole : AreWords plain_whole
-AreWords-plain_whole = AreWords-test plain_whole refl
-
-module _ (words : List ℕ) (w : ℕ) (there : w < length words) (right : IsRight words (suc w)) where
-  more : List ℕ
-  more = filled w words plain_whole
-
-  front : (i : ℕ) → i ≤ w → get_or more i 0 ≡ get_or words i 0
-  unfolding more
-  front i h = filled_front w words plain_whole i there h
-
-  behind : (i : ℕ) → w < i → get_or more i 0 ≡ get_or plain_whole i 0
-  unfolding more
-  behind i h = filled_behind w words plain_whole i there h
-
-  cif0_right : bits (get_or more 7 0) 0 31 ≡ fields_bits
-  cif0_right = elim (cases_lt 6 w) [
-    | inl seven ↦ ap (λ x. bits x 0 31) (front 7 seven) ∙ right.cif0 (omega arith)
-    | inr six ↦ ap (λ x. bits x 0 31) (behind 7 (omega arith))
-  ]
-
-  rate_right : IsRate (get_or more 19 0) (get_or more 20 0)
-  rate_right = elim (cases_lt 19 w) [
-    | inl both ↦ record {
-      positive = omega (arith, front 19 (omega arith), right.rate_high (omega arith));
-      least = omega (arith, front 19 (omega arith), front 20 both, right.rate_low (omega arith));
+begun_front : (profile : PacketProfile) (p : Prologue) (v : ContextRec) (front words rest : List ℕ) → IsPrologueOf profile Context p front
+    → IsContext profile v (front ++ (words ++ rest)) → IsBegun p words
+begun_front profile p v front words rest is h =
+    let seven = seven_words profile Context p front refl is in
+    let at : (j : ℕ) → j < length words → get_or (front ++ (words ++ rest)) (7 + j) 0 ≡ get_or words j 0 = λ j lt. row_behind front words rest 7 j seven lt in
+    record {
+      cif0 = λ lt. ap (λ w. bits w 0 31) (sym (at 0 lt)) ∙ h.cif0;
+      rate_high = λ lt. omega (arith, at 12 lt, h.rate.positive);
+      rate_low = λ lt. omega (arith, at 12 (omega arith), at 13 lt, h.rate.least);
+      format_first = λ lt. subst IsFormatFirst (at 18 lt) h.format_first;
+      format_second = λ lt. sym (at 19 lt) ∙ h.format_second;
+      size = omega (arith, seven, h.all, length-append front (words ++ rest), length-append words rest);
     }
-    | inr le ↦ elim (cases_lt 18 w) [
-      | inl high ↦ record {
-        positive = omega (arith, front 19 high, right.rate_high (omega arith));
-        least = omega (arith, behind 20 (omega arith));
-      }
-      | inr none ↦ record {
-        positive = omega (arith, behind 19 (omega arith));
-        least = omega (arith, behind 20 (omega arith));
-      }
-    ]
-  ]
 
-  format_first_right : IsFormatFirst (get_or more 25 0)
-  format_first_right = elim (cases_lt 24 w) [
-    | inl lt ↦ subst IsFormatFirst (sym (front 25 lt)) (right.format_first (omega arith))
-    | inr le ↦ subst IsFormatFirst (sym (behind 25 (omega arith))) sixteen_bits_first
-  ]
-
-  format_second_right : IsFormatSecond (get_or more 26 0)
-  format_second_right = elim (cases_lt 25 w) [
-    | inl lt ↦ front 26 lt ∙ right.format_second (omega arith)
-    | inr le ↦ behind 26 (omega arith)
-  ]
-
-  -- right words behind a prologue begin a context
-  right_begins : (profile : PacketProfile) (p : Prologue) → IsPrologue profile p (take 7 words) → p.header.kind ≡ Context → 6 ≤ w → Begins (IsContext profile) words w
-  unfolding more context_in
-  right_begins profile p h kind six =
-      let same : take 7 more ≡ take 7 words =
-      take-append-le 7 (take (suc w) words) (drop (suc w) plain_whole) (omega (arith, length-take-le (suc w) words there)) ∙ take-take 7 (suc w) words (omega arith) in (
-        context_in p more,
-        (
-          drop (suc w) plain_whole,
-          (
-            AreWords-drop (suc w) plain_whole AreWords-plain_whole,
-            record {
-              all = length-filled w words plain_whole there (omega (arith, right.size));
-              prologue = subst (IsPrologue profile p) (sym same) h;
-              kind = kind;
-              changed = refl;
-              cif0 = cif0_right;
-              fields = refl;
-              rate = rate_right;
-              format_first = format_first_right;
-              format_second = format_second_right;
-            },
-          ),
-        ),
-      )
+pub grown : (profile : PacketProfile) → AreGrown (IsPrologueOf profile Context) (IsContext profile) IsBegun (λ p. 20)
+grown profile = record {
+  front = λ v words h. (v.prologue, (7, h.prologue));
+  sound = begun_front profile;
+  start = λ p front is. record {
+    cif0 = λ h. absurd (omega arith);
+    rate_high = λ h. absurd (omega arith);
+    rate_low = λ h. absurd (omega arith);
+    format_first = λ h. absurd (omega arith);
+    format_second = λ h. absurd (omega arith);
+    size = omega arith;
+  };
+  next = λ p front words is fits b. elim (cases_lt (length words) 20) [
+    | inl less ↦ inr (get_or plain (length words) 0, (AreWords-plain (length words), next_begun p words less b))
+    | inr all ↦ inl (context_in p (front ++ words), whole profile p front words is b (omega (arith, b.size)))
+  ];
+  bounded = λ p words b. b.size;
+}
 
 -- ---- refusals
 
--- a context's datagram has its prologue in front
-pub context_front : (profile : PacketProfile) (v : ContextRec) (bytes : List ℕ) → IsDatagram (IsContext profile) v bytes → IsPrologue profile v.prologue (take 7 (words_of bytes))
-context_front profile v bytes d = d.packet.prologue
-
--- a datagram of another packet type is refused at once
-pub other_type_refused : (profile : PacketProfile) (bytes : List ℕ) → ¬ ((0 < length (words_of bytes)) × (bits (get_or (words_of bytes) 0 0) 28 4 ≡ 4)) → IsRefused (IsContext profile) bytes 0
-other_type_refused profile bytes other = record {
-  at = record {
-    within = omega arith;
-    before = λ u h. absurd (omega arith);
-    here = λ there b. other (
-      there,
-      ap (λ w. bits w 28 4) (sym (begun_words 0 (words_of bytes) b.1.0 0 there (omega arith)))
-          ∙ type_of_context profile b.0 (take 1 (words_of bytes) ++ b.1.0) b.1.1.1,
-    );
-  };
-  no_packet = λ v d. other (omega (arith, d.packet.all), type_of_context profile v (words_of bytes) d.packet);
-}
-
 -- a datagram with no prologue in front is refused where that is
-pub front_refused : (profile : PacketProfile) (bytes : List ℕ) (place : ℕ) → 0 < length (words_of bytes) → bits (get_or (words_of bytes) 0 0) 28 4 ≡ 4
-    → ((q : Prologue) (n : ℕ) → ¬ IsPrologue profile q (take n (words_of bytes))) → IsRefusedAt (IsPrologue profile) (words_of bytes) place → IsRefused (IsContext profile) bytes place
-front_refused profile bytes place some type none q = record {
-  at = record {
-    within = q.within;
-    before = λ u h. front_begins profile (words_of bytes) u (omega (arith, q.within)) type (q.before u h);
-    here = λ there b. elim (cases_lt place 7) [
-      | inl inside ↦ q.here there (begun_prologue profile (words_of bytes) place inside there b)
-      | inr more ↦ none b.0.prologue 7 (subst (IsPrologue profile b.0.prologue)
-          (take-append-le 7 (take (suc place) (words_of bytes)) b.1.0 (omega (arith, length-take-le (suc place) (words_of bytes) there)) ∙ take-take 7 (suc place) (words_of bytes) (omega arith))
-          b.1.1.1.prologue)
-    ];
-  };
-  no_packet = λ v d. none v.prologue 7 d.packet.prologue;
-}
+pub front_refused : (profile : PacketProfile) (bytes : List ℕ) (place : ℕ) → IsRefusedAt (IsPrologueOf profile Context) (words_of bytes) place
+    → ((p : Prologue) (n : ℕ) → ¬ IsPrologueOf profile Context p (take n (words_of bytes))) → IsRefused (IsContext profile) bytes place
+front_refused profile bytes place at none =
+    refused_datagram_in_front (IsPrologueOf profile Context) (IsContext profile) IsBegun (λ p. 20) (grown profile) bytes place at none
 
--- a datagram that goes wrong behind its prologue is refused there
-pub behind_refused : (profile : PacketProfile) (p : Prologue) (bytes : List ℕ) (place : ℕ) → AreBytes bytes → IsPrologue profile p (take 7 (words_of bytes)) → p.header.kind ≡ Context
-    → IsWrongAt bytes place → IsRefused (IsContext profile) bytes place
-behind_refused profile p bytes place fits h kind wrong =
-    let words = words_of bytes in
-    let last = place - 1 in
-    let next : suc last ≡ place = omega (arith, wrong.behind) in
-    let there : last < length words = omega (arith, wrong.right.there) in
+begun_of_right : (p : Prologue) (words : List ℕ) (k : ℕ) → 7 + k ≤ length words → IsRight words (7 + k) → IsBegun p (take k (drop 7 words))
+begun_of_right p words k there r =
+    let long = length-behind 7 k words there in
+    let at : (j : ℕ) → j < k → get_or (take k (drop 7 words)) j 0 ≡ get_or words (7 + j) 0 = λ j lt. behind_front 7 k words j lt in
     record {
-      at = refused_by_steps (IsContext profile) (IsRight words) words place
-          (λ w lt b. begun_right profile words w lt b)
-          (λ u lt right. Begins-below (IsContext profile) words u last (words_of-words bytes fits) (omega arith)
-          (right_begins words last there (subst (IsRight words) (sym next) right) profile p h kind (omega (arith, wrong.behind))))
-          wrong.right.there wrong.right.right wrong.here;
-      no_packet = λ v d. elim (cases_lt place 27) [
-        | inl inside ↦ wrong.here (omega (arith, d.packet.all)) (context_right profile v words (suc place) d.packet inside)
-        | inr end ↦ wrong.more (omega (arith, wrong.right.right.size)) (d.whole ∙ ap (λ n. 4 * n) d.packet.all)
-      ];
+      cif0 = λ h. ap (λ w. bits w 0 31) (at 0 (omega arith)) ∙ r.cif0 (omega arith);
+      rate_high = λ h. omega (arith, at 12 (omega arith), r.rate_high (omega arith));
+      rate_low = λ h. omega (arith, at 12 (omega arith), at 13 (omega arith), r.rate_low (omega arith));
+      format_first = λ h. subst IsFormatFirst (sym (at 18 (omega arith))) (r.format_first (omega arith));
+      format_second = λ h. at 19 (omega arith) ∙ r.format_second (omega arith);
+      size = omega (arith, r.size);
     }
 
+right_of_begun : (p : Prologue) (words : List ℕ) (k : ℕ) → 7 + k ≤ length words → IsBegun p (take k (drop 7 words)) → IsRight words (7 + k)
+right_of_begun p words k there b =
+    let long = length-behind 7 k words there in
+    let at : (j : ℕ) → j < k → get_or (take k (drop 7 words)) j 0 ≡ get_or words (7 + j) 0 = λ j lt. behind_front 7 k words j lt in
+    record {
+      cif0 = λ h. ap (λ w. bits w 0 31) (sym (at 0 (omega arith))) ∙ b.cif0 (omega arith);
+      rate_high = λ h. omega (arith, at 12 (omega arith), b.rate_high (omega arith));
+      rate_low = λ h. omega (arith, at 12 (omega arith), at 13 (omega arith), b.rate_low (omega arith));
+      format_first = λ h. subst IsFormatFirst (at 18 (omega arith)) (b.format_first (omega arith));
+      format_second = λ h. sym (at 19 (omega arith)) ∙ b.format_second (omega arith);
+      size = omega (arith, b.size);
+    }
+
+stopped : (p : Prologue) (bytes : List ℕ) (k : ℕ) → IsWrongAt bytes (7 + k) → IsStoppedAt (IsBegun p) (drop 7 (words_of bytes)) k
+stopped p bytes k wrong =
+    let words = words_of bytes in
+    let rest = length-drop 7 words in
+    record {
+      within = omega (arith, wrong.right.there, rest);
+      begun = begun_of_right p words k wrong.right.there wrong.right.right;
+      here = λ there b.
+          let inside : 7 + k < length words = omega (arith, rest) in
+          let next : 7 + suc k ≡ suc (7 + k) = omega arith in
+          wrong.here inside (subst (IsRight words) next (right_of_begun p words (suc k) (omega arith) b));
+    }
+
+-- a datagram that goes wrong behind its prologue is refused there
+pub behind_refused : (profile : PacketProfile) (p : Prologue) (bytes : List ℕ) (place : ℕ) → AreBytes bytes → IsPrologueOf profile Context p (take 7 (words_of bytes))
+    → IsWrongAt bytes place → IsRefused (IsContext profile) bytes place
+behind_refused profile p bytes place fits is wrong =
+    let behind : 7 + (place - 7) ≡ place = omega (arith, wrong.behind) in
+    let stop = stopped p bytes (place - 7) (subst (IsWrongAt bytes) (sym behind) wrong) in
+    subst (IsRefused (IsContext profile) bytes) behind
+    (refused_datagram (IsPrologueOf profile Context) (IsContext profile) IsBegun (λ p. 20) (grown profile) p bytes 7 (place - 7) fits
+    (omega (arith, wrong.right.there, wrong.behind)) is stop
+    (λ e v d. wrong.more (omega (arith, d.packet.all)) (d.whole ∙ ap (λ n. 4 * n) d.packet.all)))
+
 -- a datagram that is right behind its prologue is a context
-pub behind_found : (profile : PacketProfile) (v : ContextRec) (bytes : List ℕ) → IsPrologue profile v.prologue (take 7 (words_of bytes)) → v.prologue.header.kind ≡ Context
+pub behind_found : (profile : PacketProfile) (v : ContextRec) (bytes : List ℕ) → IsPrologueOf profile Context v.prologue (take 7 (words_of bytes))
     → IsBehind v.changed bytes → v.fields ≡ take 19 (drop 8 (words_of bytes)) → IsDatagram (IsContext profile) v bytes
-behind_found profile v bytes h kind behind fields =
+behind_found profile v bytes h behind fields =
     let words = words_of bytes in
     let count = length-words_of bytes in
     let all : length words ≡ 27 = omega (arith, count.0, count.1, behind.whole) in
@@ -307,7 +201,6 @@ behind_found profile v bytes h kind behind fields =
       packet = record {
         all = all;
         prologue = h;
-        kind = kind;
         changed = behind.change_told;
         cif0 = right.cif0 (omega arith);
         fields = fields ∙ take_all 19 (drop 8 words) (omega (arith, length-drop 8 words));
@@ -316,19 +209,6 @@ behind_found profile v bytes h kind behind fields =
         format_second = right.format_second (omega arith);
       };
     }
-
-some_words : (timed : Bool) → 0 < prologue_words timed
-some_words true = omega arith
-some_words false = omega arith
-
--- the prologue in front of a datagram with the packet type of contexts
-pub front_told : (profile : PacketProfile) (p : Prologue) (words : List ℕ) → IsPrologue profile p (take (prologue_words p.header.timed) words)
-    → bits (get_or words 0 0) 28 4 ≡ 4 → (p.header.kind ≡ Context) × IsPrologue profile p (take 7 words)
-front_told profile p words h type =
-    let n = prologue_words p.header.timed in
-    let first = get_or-take n words 0 0 (some_words p.header.timed) in
-    let told = prologue_of_type profile p (take n words) h (ap (λ w. bits w 28 4) first ∙ type) in
-    (told.0, subst (λ m. IsPrologue profile p (take m words)) (ap prologue_words told.1) h)
 
 -- a datagram is one context
 pub one_datagram : (profile : PacketProfile) (a b : ContextRec) (bytes : List ℕ) → IsDatagram (IsContext profile) a bytes → IsDatagram (IsContext profile) b bytes → a ≡ b

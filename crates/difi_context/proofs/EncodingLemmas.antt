@@ -1,5 +1,5 @@
 -- The words that an encoder writes are those of the packet.
-use Rattle.std.proofs.Common.{◌≡◌, ℕ, ◌+◌, ◌*◌, ◌<◌, ◌≤◌, Bool, true, false, List, [], ◌∷◌, ◌++◌, length, take, drop, set, get_or, sym, ap, ◌∙◌, subst, append_assoc, length-append, length-drop, arith}
+use Rattle.std.proofs.Common.{◌≡◌, ℕ, ◌+◌, ◌*◌, ◌<◌, ◌≤◌, Bool, true, false, List, [], ◌∷◌, ◌++◌, length, take, drop, set, get_or, refl, sym, ap, ◌∙◌, subst, append_assoc, length-append, length-drop, arith}
 use Rattle.std.proofs.lemmas.List.{take_at, take_more_set, drop_more, take-append-drop, length-take-le}
 use Rattle.vrt_words.specs.Words.{words_of, AreWords, AreBytes}
 use Rattle.vrt_words.specs.Begins.{IsDatagram}
@@ -7,7 +7,8 @@ use Rattle.vrt_words.proofs.WordLaws.{AreWords-take, length-words_of, words_of-t
 use Rattle.vrt_header.specs.Profile.{PacketProfile}
 use Rattle.vrt_header.specs.Header.{prologue_words}
 use Rattle.vrt_header.specs.Prologue.{IsPrologue}
-use Rattle.difi_context.proofs.ContextLaws.{context_timed}
+use Rattle.vrt_header.specs.declared.header.Kind.TheVariants.{Context}
+use Rattle.vrt_header.proofs.KindLaws.{timed_of_kind}
 use Rattle.difi_context.proofs.SpellingLaws.{cif0_word}
 use Rattle.difi_context.specs.Context.{IsContext, cif0_of}
 use Rattle.difi_context.specs.declared.context.ContextRec.{ContextRec}
@@ -65,8 +66,8 @@ pub encoded : (profile : PacketProfile) (rec : ContextRec) (first second third :
     → words_of third ≡ take 8 (words_of second) ++ (rec.fields ++ drop (8 + length rec.fields) (words_of second))
     → (words : List ℕ) → AreWords words → IsContext profile rec words → take 27 (words_of third) ≡ words
 encoded profile rec first second third count cif0 e front there c e2 e3 words fits h =
-    let timed = context_timed profile rec.prologue (take 7 words) h.prologue h.kind in
+    let timed = timed_of_kind profile Context rec.prologue (take 7 words) refl h.prologue in
     let seven : count ≡ 7 = e ∙ ap prologue_words timed in
     let there_words = length-words_of first in
     written profile rec words (words_of first) (words_of second) (words_of third) cif0 fits h
-    (subst (λ n. take n (words_of first) ≡ take 7 words) seven (front (take 7 words) (AreWords-take 7 words fits) h.prologue)) (omega (arith, there_words.1)) c e2 e3
+    (subst (λ n. take n (words_of first) ≡ take 7 words) seven (front (take 7 words) (AreWords-take 7 words fits) h.prologue.prologue)) (omega (arith, there_words.1)) c e2 e3

@@ -24,7 +24,7 @@ spelled profile rec words h =
 
 one_words : (profile : PacketProfile) (rec : ContextRec) (a b : List ℕ) → AreWords a → AreWords b → IsContext profile rec a → IsContext profile rec b → a ≡ b
 one_words profile rec a b fits fits' p q =
-    let front = one_front profile rec.prologue (take 7 a) (take 7 b) (AreWords-take 7 a fits) (AreWords-take 7 b fits') p.prologue q.prologue in
+    let front = one_front profile rec.prologue (take 7 a) (take 7 b) (AreWords-take 7 a fits) (AreWords-take 7 b fits') p.prologue.prologue q.prologue.prologue in
     let cif0 : get_or a 7 0 ≡ get_or b 7 0 =
     cif0_word (get_or a 7 0) rec.changed (fits 7) p.changed p.cif0 ∙ sym (cif0_word (get_or b 7 0) rec.changed (fits' 7) q.changed q.cif0) in
     spelled profile rec a p ∙ ap (λ xs. xs ++ (get_or a 7 0 ∷ rec.fields)) front ∙ ap (λ w. take 7 b ++ (w ∷ rec.fields)) cif0 ∙ sym (spelled profile rec b q)

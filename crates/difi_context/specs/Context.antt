@@ -2,7 +2,7 @@
 use Rattle.std.specs.Prelude.{◌≡◌, ℕ, ◌+◌, ◌*◌, ◌<◌, ◌≤◌, ◌^◌, ◌==◌, Bool, true, false, if◌then◌else◌, List, length, take, drop, slice_index}
 use Rattle.vrt_words.specs.Words.{bits, AreWords}
 use Rattle.vrt_header.specs.Profile.{PacketProfile}
-use Rattle.vrt_header.specs.Prologue.{IsPrologue}
+use Rattle.vrt_header.specs.Prologue.{IsPrologueOf}
 use Rattle.vrt_header.specs.declared.header.Kind.TheVariants.{Context}
 use Rattle.vrt_fields.specs.Format.{IsFormatFirst, IsFormatSecond}
 pub use Rattle.vrt_fields.specs.FieldWords.{IsRate, field_of}
@@ -20,8 +20,7 @@ cif0_of false = 0x7BB98000
 -- these words, and no others, are a context packet
 pub record IsContext (profile : PacketProfile) (rec : ContextRec) (words : List ℕ) : Type 0 where
   pub all : length words ≡ 27
-  pub prologue : IsPrologue profile rec.prologue (take 7 words)
-  pub kind : rec.prologue.header.kind ≡ Context
+  pub prologue : IsPrologueOf profile Context rec.prologue (take 7 words)
   pub changed : rec.changed ≡ (bits (slice_index words 7) 31 1 == 1)
   pub cif0 : bits (slice_index words 7) 0 31 ≡ fields_bits
   pub fields : rec.fields ≡ drop 8 words

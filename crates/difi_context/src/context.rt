@@ -1,4 +1,4 @@
-ghost use Rattle.std.specs.Prelude.{◌≡◌, ◌≤◌, ◌<◌, ◌==◌, ◌↔◌, IsTrue, length, slice_index, IfOk, OnOk, IfErr, Ok};
+ghost use Rattle.std.specs.Prelude.{◌≡◌, ◌≤◌, ◌==◌, length, slice_index, IfOk, OnOk, IfErr, Ok};
 ghost use Rattle.vrt_words.specs.Words.{words_of, bits};
 ghost use Rattle.vrt_words.specs.Begins.{IsDatagram, IsRefused};
 ghost use Rattle.difi_context.specs.declared.context.ContextRec.{ContextRec};
@@ -6,8 +6,8 @@ ghost use Rattle.difi_context.specs.Context.{IsContext, IsInGrammar, IsSpelled};
 ghost use Rattle.difi_context.specs.Steps.{IsBehind, IsRightTo, IsWrongAt};
 
 use vrt_fields::PayloadFormat;
-use vrt_header::{Profile, Prologue, read_prologue};
-use vrt_words::{Place, bits_of, read_words, word_at, word_or_place};
+use vrt_header::{Kind, Profile, Prologue, read_prologue_of};
+use vrt_words::{Place, bits_of, read_words, word_or_place};
 
 /// The words of a context packet.
 const WORDS: u32 = 27;
@@ -39,10 +39,7 @@ pub fn decode(profile: Profile, bytes: &[u8]) -> Result<ContextRec, Place>
     ensures allowed { IfOk result (IsSpelled profile) }
     ensures grammar { IfOk result IsInGrammar }
 {
-    if !is_context(bytes) {
-        return Err(Place { word: 0 });
-    }
-    let prologue = match read_prologue(profile, bytes) {
+    let prologue = match read_prologue_of(profile, Kind::Context, bytes) {
         Ok(prologue) => prologue,
         Err(place) => return Err(place),
     };
@@ -57,17 +54,6 @@ pub fn decode(profile: Profile, bytes: &[u8]) -> Result<ContextRec, Place>
         changed,
         fields,
     })
-}
-
-// Whether the packet type is that of context packets.
-fn is_context(bytes: &[u8]) -> bool
-    ensures { IsTrue result
-        ↔ (0 < length (words_of bytes.now)) × (bits (slice_index (words_of bytes.now) 0) 28 4 ≡ 4) }
-{
-    match word_at(bytes, 0) {
-        Some(word) => bits_of(word, 28, 4) == 4,
-        None => false,
-    }
 }
 
 // The change indicator, where nothing is wrong behind the prologue of a context.

@@ -45,7 +45,7 @@ cif0_once a b p q e f = let top = same_bit (bits a 31 1) (bits b 31 1) (omega ar
 -- a packet is spelled by one list of words
 pub one_words : (profile : PacketProfile) (rec : VersionRec) (a b : List ℕ) → AreWords a → AreWords b → IsVersion profile rec a → IsVersion profile rec b → a ≡ b
 one_words profile rec a b fits fits' p q =
-    let front = one_front profile rec.prologue (take 7 a) (take 7 b) (AreWords-take 7 a fits) (AreWords-take 7 b fits') p.prologue q.prologue in
+    let front = one_front profile rec.prologue (take 7 a) (take 7 b) (AreWords-take 7 a fits) (AreWords-take 7 b fits') p.prologue.prologue q.prologue.prologue in
     let first = cif0_once (get_or a 7 0) (get_or b 7 0) (fits 7) (fits' 7) (sym p.changed ∙ q.changed) (p.cif0 ∙ sym q.cif0) in
     sym (spelled profile rec a p)
     ∙ ap (λ xs. xs ++ (get_or a 7 0 ∷ 12 ∷ rec.spec ∷ rec.version ∷ [])) front

@@ -2,7 +2,7 @@
 use Rattle.std.specs.Prelude.{◌≡◌, ℕ, ◌==◌, List, length, take, slice_index}
 use Rattle.vrt_words.specs.Words.{bits}
 use Rattle.vrt_header.specs.Profile.{PacketProfile}
-use Rattle.vrt_header.specs.Prologue.{IsPrologue}
+use Rattle.vrt_header.specs.Prologue.{IsPrologueOf}
 use Rattle.vrt_header.specs.declared.header.Kind.TheVariants.{Version}
 use Rattle.difi_version.specs.declared.version.VersionRec.{VersionRec}
 
@@ -17,8 +17,7 @@ versions_bits = 12
 -- these words, and no others, are a version packet
 pub record IsVersion (profile : PacketProfile) (rec : VersionRec) (words : List ℕ) : Type 0 where
   pub all : length words ≡ 11
-  pub prologue : IsPrologue profile rec.prologue (take 7 words)
-  pub kind : rec.prologue.header.kind ≡ Version
+  pub prologue : IsPrologueOf profile Version rec.prologue (take 7 words)
   pub changed : rec.changed ≡ (bits (slice_index words 7) 31 1 == 1)
   pub cif0 : bits (slice_index words 7) 0 31 ≡ cif1_follows
   pub cif1 : slice_index words 8 ≡ versions_bits

@@ -1,12 +1,12 @@
-ghost use Rattle.std.specs.Prelude.{◌≡◌, ◌≤◌, ◌<◌, ◌*◌, ◌==◌, ◌↔◌, ℕ, List, IsTrue, length, take, drop, slice_index, IfOk, IfErr, Ok};
+ghost use Rattle.std.specs.Prelude.{◌≡◌, ◌≤◌, ◌<◌, ◌*◌, ◌==◌, ℕ, List, length, take, drop, slice_index, IfOk, IfErr, Ok};
 ghost use Rattle.vrt_words.specs.Words.{words_of, bits, AreBytes, AreWords};
 ghost use Rattle.vrt_words.specs.Begins.{IsDatagram, IsRefused};
 ghost use Rattle.difi_version.specs.declared.version.VersionRec.{VersionRec};
 ghost use Rattle.difi_version.specs.Version.{IsVersion};
 ghost use Rattle.difi_version.specs.Steps.{IsRight, IsWrongAt};
 
-use vrt_header::{Profile, Prologue, read_prologue, write_prologue};
-use vrt_words::{Place, bits_of, put_words, word_at, word_or_place};
+use vrt_header::{Kind, Profile, Prologue, read_prologue_of, write_prologue};
+use vrt_words::{Place, bits_of, put_words, word_or_place};
 
 /// The words of a version packet.
 const WORDS: u32 = 11;
@@ -39,23 +39,9 @@ pub fn decode(profile: Profile, bytes: &[u8]) -> Result<VersionRec, Place>
     ensures only { (rec : VersionRec) → IsDatagram (IsVersion profile) rec bytes.now → result ≡ Ok rec }
     ensures refused { IfErr result (λ place. IsRefused (IsVersion profile) bytes.now place.word) }
 {
-    if !is_version(bytes) {
-        return Err(Place { word: 0 });
-    }
-    match read_prologue(profile, bytes) {
+    match read_prologue_of(profile, Kind::Version, bytes) {
         Ok(prologue) => read_behind(prologue, bytes),
         Err(place) => Err(place),
-    }
-}
-
-// Whether the packet type is that of version packets.
-fn is_version(bytes: &[u8]) -> bool
-    ensures { IsTrue result
-        ↔ (0 < length (words_of bytes.now)) × (bits (slice_index (words_of bytes.now) 0) 28 4 ≡ 5) }
-{
-    match word_at(bytes, 0) {
-        Some(word) => bits_of(word, 28, 4) == 5,
-        None => false,
     }
 }
 

@@ -11,7 +11,8 @@ use Rattle.sample_binder.specs.declared.run.Run.TheVariants.{Bound, Uncertain, R
 use Rattle.release_form.specs.Positions.{word, double, quadruple}
 use Rattle.release_form.specs.Rules.{Obeys}
 use Rattle.release_form.specs.Layout.{IsLaidOut, IsLateStampAt, IsOfStream, IsPortAt, IsStampAt, kind_of, front_of}
-use Rattle.release_form.specs.Sizes.{AreWholeWords, GoesWith, HasLength, part_size}
+use Rattle.sample_binder.specs.RunRules.{AreWholeWords}
+use Rattle.release_form.specs.Sizes.{GoesWith, HasLength, part_size}
 use Rattle.release_form.specs.Release.{IsRecordOf, IsPartOf, as_read, read_run}
 use Rattle.release_form.specs.Front.{high_word, low_word, late_words, count_words, front_words, IsTyped, IsTypedRun, IsStampTyped}
 use Rattle.release_form.specs.declared.shown.Shown.{Shown}

@@ -1,5 +1,5 @@
 -- Laws of release records: at most one stands first, and it says one thing.
-use Rattle.std.proofs.Common.{get_or-drop, ◌≡◌, ℕ, suc, ◌+◌, ◌*◌, ◌≤◌, List, length, take, drop, get_or, refl, sym, ap, ◌∙◌, subst, ◌↔◌, Option, Some, None, IsSome, arith}
+use Rattle.std.proofs.Common.{◌≡◌, ℕ, suc, ◌+◌, ◌*◌, ◌≤◌, List, length, take, drop, get_or, refl, sym, ap, ◌∙◌, subst, ◌↔◌, Option, Some, None, IsSome, arith}
 use Rattle.std.proofs.lemmas.List.{length-take-le, take-take, get_or-take}
 use Rattle.vrt_words.specs.Words.{words_of}
 use Rattle.vrt_words.proofs.WordLaws.{words_of-take}
@@ -8,12 +8,8 @@ use Rattle.sample_binder.specs.declared.reason.Reason.{Reason}
 use Rattle.sample_binder.specs.declared.reason.Reason.TheVariants.{BeforeFirst, ContextLost, PendingFull, TimelineFull, Ended, FormatChanged, Shape}
 use Rattle.sample_binder.specs.declared.run.Run.{Run}
 use Rattle.sample_binder.specs.declared.run.Run.TheVariants.{Bound, Uncertain, Raw}
-use Rattle.vrt_fields.specs.Format.{IsFormatFirst}
-use Rattle.difi_context.specs.Context.{IsInGrammar}
-use Rattle.difi_context.specs.declared.context.ContextRec.{ContextRec}
-use Rattle.release_form.specs.Rules.{AreFields}
 use Rattle.release_form.specs.Positions.{word}
-use Rattle.release_form.specs.Reasons.{number_of, detail_of}
+use Rattle.sample_binder.specs.Reasons.{number_of, detail_of}
 use Rattle.release_form.specs.Layout.{front_of, front_of_run, kind_of_run, IsLateStampAt}
 use Rattle.release_form.specs.Release.{IsRelease, StandsFirst}
 use Rattle.release_form.specs.Steps.{IsFirstRecord, IsReadAs, IsNoRecord}

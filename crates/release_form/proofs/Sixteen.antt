@@ -13,7 +13,7 @@ use Rattle.sample_unpack.specs.declared.sample.Sample.{Sample}
 use Rattle.sample_unpack.proofs.Bits.{bits_of_bytes-append, bits_of_bytes-nil, take-bits_of_bytes, drop-bits_of_bytes}
 use Rattle.sample_unpack.proofs.Samples.{samples_from-add}
 use Rattle.sample_unpack.proofs.RoundTrip.{bits_kept, read_back, samples_fit}
-use Rattle.release_form.specs.Sizes.{HoldsRun}
+use Rattle.sample_binder.specs.RunRules.{HoldsRun}
 use Rattle.release_form.specs.Release.{AreSamples}
 
 power_most : (w : ℕ) → w ≤ 16 → 2 ^ (w - 1) ≤ 2 ^ 15

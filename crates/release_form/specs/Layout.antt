@@ -7,7 +7,7 @@ use Rattle.sample_binder.specs.declared.reason.Reason.{Reason}
 use Rattle.sample_binder.specs.declared.run.Run.{Run}
 use Rattle.sample_binder.specs.declared.run.Run.TheVariants.{Bound, Uncertain, Raw}
 use Rattle.release_form.specs.Positions.{word, double, quadruple, stamp_at}
-use Rattle.release_form.specs.Reasons.{number_of, detail_of}
+use Rattle.sample_binder.specs.Reasons.{number_of, detail_of}
 use Rattle.release_form.specs.declared.shown.Shown.{Shown}
 use Rattle.release_form.specs.declared.shown.Shown.TheVariants.{Run as ARun, Ack, Refused, Version, End}
 

@@ -1,5 +1,4 @@
 pub mod Positions
-pub mod Reasons
 pub mod Rules
 pub mod Layout
 pub mod Sizes

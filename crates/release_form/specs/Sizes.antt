@@ -1,16 +1,11 @@
 -- How long the variable part of a release record is, and the whole of it.
-use Rattle.std.specs.Prelude.{◌≡◌, ℕ, ◌+◌, ◌*◌, ◌%◌, ◌<◌, ◌≤◌, ◌^◌}
-use Rattle.sample_unpack.specs.Samples.{LieWithin}
+use Rattle.std.specs.Prelude.{◌≡◌, ℕ, ◌+◌, ◌*◌, ◌≤◌, ◌^◌}
 use Rattle.sample_binder.specs.declared.run.Run.{Run}
 use Rattle.sample_binder.specs.declared.run.Run.TheVariants.{Bound, Uncertain, Raw}
+use Rattle.sample_binder.specs.RunRules.{AreWholeWords, GoesWithRun}
 use Rattle.release_form.specs.Layout.{front_of}
 use Rattle.release_form.specs.declared.shown.Shown.{Shown}
 use Rattle.release_form.specs.declared.shown.Shown.TheVariants.{Run as ARun, Ack, Refused, Version, End}
-
--- whole words, and one at least
-pub record AreWholeWords (bytes : ℕ) : Type 0 where
-  pub some : 0 < bytes
-  pub whole : bytes % 4 ≡ 0
 
 -- the lengths that the variable part may have: a word for each sample, some words, the eleven of a version
 -- packet, or none
@@ -26,18 +21,7 @@ HasLength (Refused frame port reason detail stamp) part = part ≡ 0
 HasLength (Version port) part = part ≡ 44
 HasLength (End counts) part = part ≡ 0
 
--- the samples of a run lie in so many bytes of payload, with items of 4 to 16 bits
-pub record HoldsRun (bits first number payload : ℕ) : Type 0 where
-  pub least_bits : 4 ≤ bits
-  pub most_bits : bits ≤ 16
-  pub within : LieWithin bits first number payload
-
 -- so many bytes go with the value: the payload of a run of samples, and else the variable part itself
-abbrev pub GoesWithRun : Run → ℕ → Type 0
-GoesWithRun (Bound stamp first number moment fields bits) payload = HoldsRun bits first number payload
-GoesWithRun (Uncertain reason stamp first number moment bits) payload = HoldsRun bits first number payload
-GoesWithRun (Raw reason stamp pad) payload = AreWholeWords payload
-
 abbrev pub GoesWith : Shown → ℕ → Type 0
 GoesWith (ARun stream port lost run) bytes = GoesWithRun run bytes
 GoesWith (Ack port) bytes = AreWholeWords bytes

@@ -1,7 +1,7 @@
 -- What the reader of records finds on its way.
 use Rattle.std.specs.Prelude.{◌≡◌, ℕ, ◌+◌, ◌*◌, ◌≤◌, List, length, take, drop}
 use Rattle.release_form.specs.Positions.{word}
-use Rattle.release_form.specs.Rules.{AreIndices}
+use Rattle.sample_binder.specs.RunRules.{AreIndices}
 use Rattle.release_form.specs.Layout.{IsPortAt, front_of}
 use Rattle.release_form.specs.Release.{IsRelease}
 use Rattle.release_form.specs.declared.shown.Shown.{Shown}

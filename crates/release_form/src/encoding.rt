@@ -1,7 +1,9 @@
 ghost use Rattle.std.specs.Prelude.{◌≡◌, ℕ, ◌+◌, ◌<◌, ◌≤◌, ◌^◌, List, length, take, drop};
 ghost use Rattle.vrt_words.specs.Words.{AreBytes};
-ghost use Rattle.release_form.specs.Rules.{Obeys, ObeysRun};
-ghost use Rattle.release_form.specs.Sizes.{GoesWith, GoesWithRun, size_with, part_size, run_part_size};
+ghost use Rattle.sample_binder.specs.RunRules.{ObeysRun};
+ghost use Rattle.release_form.specs.Rules.{Obeys};
+ghost use Rattle.sample_binder.specs.RunRules.{GoesWithRun};
+ghost use Rattle.release_form.specs.Sizes.{GoesWith, size_with, part_size, run_part_size};
 ghost use Rattle.release_form.specs.Release.{IsRecordOf, IsPartOf, IsPartOfRun};
 
 use crate::front::put_front;

@@ -2,7 +2,7 @@ ghost use Rattle.std.specs.Prelude.{◌≡◌, ◌↔◌, IsTrue};
 ghost use Rattle.vrt_time.specs.Time.{capture_at};
 ghost use Rattle.vrt_fields.specs.declared.field.Field.TheVariants.{SampleRate};
 ghost use Rattle.difi_context.specs.Context.{field_of};
-ghost use Rattle.release_form.specs.Rules.{AreFields};
+ghost use Rattle.sample_binder.specs.RunRules.{AreFields};
 
 use vrt_fields::{FORMAT_WORD, PayloadFormat, RATE_WORD, is_rate, rate_of};
 use vrt_time::{Moment, Stamp, capture};

@@ -1,11 +1,11 @@
-ghost use Rattle.std.specs.Prelude.{◌≡◌, ℕ, ◌+◌, ◌*◌, ◌≤◌, ◌∷◌, ◌++◌, IfSome, length, take, drop};
+ghost use Rattle.std.specs.Prelude.{◌≡◌, ℕ, ◌+◌, ◌*◌, ◌≤◌, [], ◌∷◌, ◌++◌, IfSome, length, take, drop};
 ghost use Rattle.vrt_words.specs.Words.{words_of};
+ghost use Rattle.sample_binder.specs.Reasons.{number_of, detail_of};
 ghost use Rattle.release_form.specs.Layout.{front_of, front_of_run, kind_of};
 ghost use Rattle.release_form.specs.Front.{high_word, low_word, front_words, run_words, stamp_words, moment_words, late_words, count_words, IsTyped, IsTypedRun, IsStampTyped};
 
-use crate::reasons::numbers_of;
 use crate::shown::Shown;
-use sample_binder::Run;
+use sample_binder::{Reason, Run};
 use vrt_time::{Moment, Stamp};
 use vrt_words::put_words;
 
@@ -160,6 +160,13 @@ fn put_next(into: &mut [u8], position: usize, words: &[u32])
     ensures behind { (n : ℕ) → 4 * (position + length words.now) ≤ n → drop n into.new ≡ drop n into.old }
 {
     put_words(into, position, words);
+}
+
+// The number of a reason, and its detail.
+fn numbers_of(reason: Reason) -> [u32; 2]
+    ensures { result ≡ number_of reason ∷ detail_of reason ∷ [] }
+{
+    [reason.number(), reason.detail()]
 }
 
 // The seconds, and the picoseconds in two words.

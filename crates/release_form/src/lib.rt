@@ -3,12 +3,13 @@
 #![tactic(auto)]
 
 mod decoding;
+#[cfg(test)]
+mod edge_tests;
 mod encoding;
 mod fields;
 mod front;
 mod positions;
 mod reading;
-mod reasons;
 mod round_trip;
 mod samples;
 mod shown;

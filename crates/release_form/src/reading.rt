@@ -1,11 +1,10 @@
 ghost use Rattle.std.specs.Prelude.{◌≡◌, ◌≢◌, ℕ, ◌+◌, ◌*◌, ◌≤◌, length, ◌↔◌, IsTrue, IfSome, IfNone};
 ghost use Rattle.release_form.specs.Positions.{word};
-ghost use Rattle.release_form.specs.Reasons.{number_of};
+ghost use Rattle.sample_binder.specs.Reasons.{number_of};
 ghost use Rattle.release_form.specs.Steps.{IsReadAs, IsNoRecord, IsSource, IsSpan};
 
 use crate::fields::{are_fields, is_captured};
 use crate::positions::{double_in, port_in, quadruple_in, stamp_in, word_in};
-use crate::reasons::reason_of;
 use crate::shown::Shown;
 use sample_binder::{Reason, Run};
 use vrt_time::{Moment, Stamp};
@@ -81,7 +80,7 @@ fn read_uncertain(bytes: &[u8]) -> Option<Shown>
         return None;
     }
     let (stream, port, lost) = read_source(bytes)?;
-    let reason = reason_of(word_in(bytes, 5), word_in(bytes, 6))?;
+    let reason = Reason::of(word_in(bytes, 5), word_in(bytes, 6))?;
     let stamp = stamp_in(bytes, 7)?;
     let (first, number) = read_span(bytes, 10, 64)?;
     if !is_of_samples(reason) {
@@ -115,7 +114,7 @@ fn read_raw(bytes: &[u8]) -> Option<Shown>
         return None;
     }
     let (stream, port, lost) = read_source(bytes)?;
-    let reason = reason_of(word_in(bytes, 5), word_in(bytes, 6))?;
+    let reason = Reason::of(word_in(bytes, 5), word_in(bytes, 6))?;
     let stamp = stamp_in(bytes, 7)?;
     let pad = word_in(bytes, 10);
     if !is_of_packets(reason) || pad > 31 {

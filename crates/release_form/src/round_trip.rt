@@ -2,7 +2,7 @@ ghost use Rattle.std.specs.Prelude.{◌≡◌, ℕ, List, length};
 ghost use Rattle.vrt_words.specs.Words.{AreBytes};
 ghost use Rattle.sample_unpack.specs.Bits.{bits_of_bytes};
 ghost use Rattle.sample_unpack.specs.Samples.{samples_from};
-ghost use Rattle.release_form.specs.Sizes.{HoldsRun};
+ghost use Rattle.sample_binder.specs.RunRules.{HoldsRun};
 ghost use Rattle.release_form.specs.Release.{StandsFirst, IsRecordOf, AreSamples};
 ghost use Rattle.release_form.specs.declared.shown.Shown.{Shown};
 

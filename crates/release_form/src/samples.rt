@@ -1,6 +1,6 @@
 ghost use Rattle.std.specs.Prelude.{◌≡◌, ◌+◌, ◌*◌, ◌≤◌, ◌^◌, length, take, drop};
-ghost use Rattle.release_form.specs.Rules.{AreIndices};
-ghost use Rattle.release_form.specs.Sizes.{HoldsRun};
+ghost use Rattle.sample_binder.specs.RunRules.{AreIndices};
+ghost use Rattle.sample_binder.specs.RunRules.{HoldsRun};
 ghost use Rattle.release_form.specs.Release.{AreSamples};
 
 use sample_unpack::{Sample, pack_into, unpack_into};

@@ -82,10 +82,10 @@ const SLOW_AND_LOUD: [u32; 19] = [
     0,
 ];
 
-const END: [u32; 16] = [7, 0x38, 0, 0, 0, 0, 0, 0, 0, 0, 0, 0, 0, 0, 0, 0];
+pub(crate) const END: [u32; 16] = [7, 0x38, 0, 0, 0, 0, 0, 0, 0, 0, 0, 0, 0, 0, 0, 0];
 
 // A whole packet of stream 1, stamped half a second after a start, in which a context was lost.
-const RAW: [u32; 12] = [
+pub(crate) const RAW: [u32; 12] = [
     3,
     0x28,
     1,
@@ -101,7 +101,7 @@ const RAW: [u32; 12] = [
 ];
 
 // A sample bound across a gap in which nothing changed, at the fields above.
-const HEALED: [u32; 34] = [
+pub(crate) const HEALED: [u32; 34] = [
     1,
     0x80,
     1,
@@ -139,7 +139,7 @@ const HEALED: [u32; 34] = [
 ];
 
 // Two samples of four, one second after the first, whose format is another one.
-const UNCERTAIN: [u32; 18] = [
+pub(crate) const UNCERTAIN: [u32; 18] = [
     2,
     0x40,
     1,
@@ -160,11 +160,11 @@ const UNCERTAIN: [u32; 18] = [
     0x0007_0008,
 ];
 
-const TOO_LARGE: [u32; 10] = [5, 0x20, 0, 1, 5, 1, 0x641, 0, 0, 0];
+pub(crate) const TOO_LARGE: [u32; 10] = [5, 0x20, 0, 1, 5, 1, 0x641, 0, 0, 0];
 
-const LATE: [u32; 10] = [5, 0x20, 0, 4, 5, 4, 0, 0x6553_F101, 0, 0];
+pub(crate) const LATE: [u32; 10] = [5, 0x20, 0, 4, 5, 4, 0, 0x6553_F101, 0, 0];
 
-const VERSION: [u32; 14] = [
+pub(crate) const VERSION: [u32; 14] = [
     6,
     0x30,
     9,
@@ -181,7 +181,7 @@ const VERSION: [u32; 14] = [
     0,
 ];
 
-const ACK: [u32; 15] = [
+pub(crate) const ACK: [u32; 15] = [
     4,
     0x34,
     5,
@@ -199,7 +199,7 @@ const ACK: [u32; 15] = [
     0x9000_0000,
 ];
 
-fn stamp(seconds: u32, picos: u64) -> Stamp
+pub(crate) fn stamp(seconds: u32, picos: u64) -> Stamp
     requires { picos < 10 ^ 12 }
     ensures { result ≡ stamp_of seconds picos }
 {
@@ -239,7 +239,7 @@ fn is_written(rt: &impl Abort, shown: &Shown, payload: &[u32], words: &[u32])
 }
 
 // What a record says, and its variable part.
-fn is_read(rt: &impl Abort, words: &[u32], shown: &Shown, part: &[u32])
+pub(crate) fn is_read(rt: &impl Abort, words: &[u32], shown: &Shown, part: &[u32])
     requires fits { length words.now ≤ 40 }
     requires part_fits { length part.now ≤ 15 }
 {

@@ -1,13 +1,14 @@
 -- What a window accepts of a delivery, by the numbers of the sent packets.
-use Rattle.std.proofs.Common.{◌≡◌, ℕ, ◌+◌, ◌-◌, ◌%◌, ◌<◌, ◌≤◌, ◌≢◌, Bool, true, false, cond, not, ◌&&◌, ◌||◌, eqb, nat_lt, if◌then◌else◌, List, [], ◌∷◌, ◌++◌, map, length, take, drop, None, is_none, refl, sym, ap, subst, ◌∙◌, suc, zero, ◌⊎◌, inl, inr, append_assoc, filter, arith}
+use Rattle.std.proofs.Common.{◌≡◌, ℕ, ◌+◌, ◌-◌, ◌%◌, ◌<◌, ◌≤◌, ◌≢◌, Bool, true, false, cond, not, ◌&&◌, ◌||◌, eqb, nat_lt, if◌then◌else◌, List, [], ◌∷◌, ◌++◌, map, length, take, drop, None, is_none, refl, sym, ap, subst, ◌∙◌, suc, zero, ◌⊎◌, inl, inr, append_assoc, filter, min, arith}
 use Rattle.std.specs.List.{range_with_len}
 use Rattle.std.proofs.lemmas.Bool.Decides.{leb_tells, eqb_tells}
-use Rattle.std.proofs.lemmas.List.{append-nil, map-append, drop-map}
+use Rattle.std.proofs.lemmas.List.{append-nil, map-append, drop-map, length-map}
 use Rattle.std.proofs.lemmas.Bool.{false≢true}
+use Rattle.std.proofs.lemmas.Grind.{common_steps}
 use Rattle.vrt_time.specs.Time.{moment_of}
 use Rattle.reorder_window.specs.declared.entry.Entry.{Entry}
 use Rattle.reorder_window.specs.Window.{lost_between, first_stamp, boundary, is_late, twin, in_place, with_arrival, accepted, number_held, released, answer, answer_accepted}
-use Rattle.reorder_window.specs.Delivery.{IsSent, occurs, IsDelivery, AreLess, AreDistances, NumbersFall, AreNumbersOf}
+use Rattle.reorder_window.specs.Delivery.{IsSent, occurs, IsDelivery, AreLess, AreDistances, NumbersFall, AreNumbersOf, IsTold}
 use Rattle.reorder_window.proofs.OrderLemmas.{ltb-false, ltb-true, ltb_tells, twin-take}
 use Rattle.reorder_window.proofs.WindowLemmas.{accepted-more, accepted-none, accepted-falling, drop-held, fresh-answer}
 
@@ -389,6 +390,20 @@ fall-drop zero ns p = p
 fall-drop (suc n) [] p = tt
 fall-drop (suc n) (j ∷ ns) p = fall-drop n ns p.1
 
+-- of numbers that fall, what is below one behind so many is there too
+below-drop : (n j k : ℕ) (ns : List ℕ) → NumbersFall ns → occurs k (drop n ns) ≡ true → occurs j ns ≡ true → j < k → occurs j (drop n ns) ≡ true
+below-drop zero j k ns p e o l = o
+below-drop (suc n) j k [] p e o l = o
+below-drop (suc n) j k (i ∷ ns) p e o l =
+    elim (occurs-cons j i ns o) [
+      | inl t ↦ absurd (omega (arith, less-than i k ns p.0 (occurs-drop k n ns e), t, l))
+      | inr t ↦ below-drop n j k ns p.1 e t l
+    ]
+
+-- at most all of a list are dropped
+drop-most : (size : ℕ) (ns : List ℕ) → drop (min size (length ns) - 0) ns ≡ drop size ns
+drop-most size ns = grind (arith, common_steps)
+
 -- what arrives below a released packet was released before it
 pub record AreClosed (order ns : List ℕ) (k : ℕ) : Type 0 where
   pub below : (m : ℕ) → occurs m order ≡ true → m < k → occurs m ns ≡ true
@@ -427,24 +442,39 @@ module _ {T : Type 0} where
                 | inr t ↦ let q : AreLess m (k ∷ rest) = rw f at (later_above m b t) in absurd (omega (arith, q.0, l))
               ]
 
+  -- what is told of a part of which more may follow, or of all of it, once so many are dropped
+  told : (start total size drained : ℕ) (packet : ℕ → Entry T) (order before later ns : List ℕ) → IsSent start total packet
+      → IsDelivery size total order → order ≡ before ++ later → IsSeen size packet before ns
+      → ((k : ℕ) → occurs k before ≡ false → occurs k later ≡ true → AreLess k (drop (number_held size (map packet before) drained) ns))
+      → IsTold packet size order before drained
+  told start total size drained packet order before later ns s d e i above =
+      let n : ℕ = number_held size (map packet before) drained in record {
+        numbers = ns;
+        arrived = i.numbers;
+        are_accepted = i.are;
+        behind = drop n ns;
+        are_behind = refl;
+        are_released = released-are size packet before ns drained i;
+        distances = released-distances start total size n packet order before later ns s d e i above;
+        whole = λ j k h o l. below-drop n j k ns i.numbers.fall h (i.numbers.all j o) l;
+      }
+
   -- while more may arrive
-  pub distances-now : (start total size : ℕ) (packet : ℕ → Entry T) (order before later : List ℕ) → IsSent start total packet → IsDelivery size total order → order ≡ before ++ later → (ns : List ℕ) × (released size (map packet before) 0 ≡ map packet ns) × AreDistances packet order ns
-  distances-now start total size packet order before later s d e =
-      let n = seen start total packet s size order d before later e in (
-        drop size n.0,
-        released-now size packet before n.0 n.1,
-        released-distances start total size size packet order before later n.0 s d e n.1 (λ k f h. behind-less size total order before later k n.0 d e f h n.1.numbers.fall n.1.numbers.inside),
-      )
+  pub told-now : (start total size : ℕ) (packet : ℕ → Entry T) (order before later : List ℕ) → IsSent start total packet → IsDelivery size total order → order ≡ before ++ later → IsTold packet size order before 0
+  told-now start total size packet order before later s d e =
+      let n = seen start total packet s size order d before later e in
+      let same : drop (number_held size (map packet before) 0) n.0 ≡ drop size n.0 = same-behind size (map packet before) n.0 (ap length n.1.are ∙ length-map n.0 packet) in
+      told start total size 0 packet order before later n.0 s d e n.1
+      (λ k f h. subst (AreLess k) (sym same) (behind-less size total order before later k n.0 d e f h n.1.numbers.fall n.1.numbers.inside))
+    where
+      same-behind : (size : ℕ) (arrivals : List (Entry T)) (ns : List ℕ) → length (accepted size arrivals) ≡ length ns → drop (number_held size arrivals 0) ns ≡ drop size ns
+      same-behind size arrivals ns e = rw e (drop-most size ns)
 
   -- and afterwards, while the held are drained
-  pub distances-drained : (start total size : ℕ) (packet : ℕ → Entry T) (order : List ℕ) (drained : ℕ) → IsSent start total packet → IsDelivery size total order → (ns : List ℕ) × (released size (map packet order) drained ≡ map packet ns) × AreDistances packet order ns
-  distances-drained start total size packet order drained s d =
+  pub told-drained : (start total size : ℕ) (packet : ℕ → Entry T) (order : List ℕ) (drained : ℕ) → IsSent start total packet → IsDelivery size total order → IsTold packet size order order drained
+  told-drained start total size packet order drained s d =
       let n = seen start total packet s size order d order [] (sym (append-nil order)) in
-      let count : ℕ = number_held size (map packet order) drained in (
-        drop count n.0,
-        released-are size packet order n.0 drained n.1,
-        released-distances start total size count packet order order [] n.0 s d (sym (append-nil order)) n.1 (λ k f h. absurd (false≢true h)),
-      )
+      told start total size drained packet order order [] n.0 s d (sym (append-nil order)) n.1 (λ k f h. absurd (false≢true h))
 
   -- the accepted are what arrived, each once
   pub final-once : (start total size : ℕ) (packet : ℕ → Entry T) (order before later : List ℕ) → IsSent start total packet → IsDelivery size total order → order ≡ before ++ later → (ns : List ℕ) × (accepted size (map packet before) ≡ map packet ns) × AreNumbersOf before ns

@@ -1,5 +1,5 @@
 -- A step of a window, against the whole list of arrivals.
-use Rattle.std.proofs.Common.{◌≡◌, ℕ, ◌+◌, ◌-◌, ◌<◌, ◌≤◌, min, Bool, true, false, cond, not, ◌&&◌, List, [], ◌∷◌, ◌++◌, length, take, drop, fold, insert, Option, Some, None, is_none, IfSome, OnSome, rules, refl, sym, ap, ◌∙◌, suc, zero, inl, inr, take-append-drop, length-append, length-take-le, arith}
+use Rattle.std.proofs.Common.{◌≡◌, ℕ, ◌+◌, ◌-◌, ◌<◌, ◌≤◌, min, Bool, true, false, cond, not, ◌&&◌, nat_lt, List, [], ◌∷◌, ◌++◌, length, take, drop, fold, insert, Option, Some, None, is_none, IfSome, OnSome, rules, refl, sym, ap, subst, ◌∙◌, suc, zero, inl, inr, take-append-drop, length-append, length-take-le, arith}
 use Rattle.std.proofs.lemmas.Grind.{common_steps}
 use Rattle.std.proofs.lemmas.Bool.Decides.{leb_tells}
 use Rattle.std.proofs.lemmas.List.{append-nil}
@@ -9,7 +9,7 @@ use Rattle.reorder_window.specs.declared.entry.Entry.{Entry}
 use Rattle.reorder_window.specs.declared.entry.Last.{Last}
 use Rattle.reorder_window.specs.declared.arrival.Arrival.{Arrival}
 use Rattle.reorder_window.specs.declared.arrival.Arrival.TheVariants.{Released, Late, Repeat, Conflict}
-use Rattle.reorder_window.specs.Window.{AreBelow, AreFalling, first_stamp, boundary, is_late, twin, in_place, with_arrival, accepted, number_held, held, released, lost_before, answer_twin, answer_accepted, answer_above, answer_by, answer, release, in_order, releases, released_by}
+use Rattle.reorder_window.specs.Window.{AreBelow, AreFalling, IsPutInto, is_accepted, first_stamp, boundary, is_late, twin, in_place, with_arrival, accepted, number_held, held, released, lost_before, answer_twin, answer_accepted, answer_above, answer_by, answer, release, in_order, releases, released_by}
 use Rattle.reorder_window.specs.State.{Holding, last_of, StandsFor}
 use Rattle.reorder_window.specs.Steps.{late_by, lost_after, found, IsRepeated, IsContradicted, IsFresh, IsGiven, IsKept, IsReleased}
 use Rattle.reorder_window.proofs.OrderLemmas.{ltb-false, leb-true, in_place-falling, twin-found, twin-take, insert-in_place, in_place-take, length-in_place, ltb_tells}
@@ -18,6 +18,24 @@ module _ {T : Type 0} where
   pub accepted-more : (size : ℕ) (h : List (Entry T)) (a : Entry T) → accepted size (h ++ a ∷ []) ≡ with_arrival size (accepted size h) a
   unfolding accepted
   accepted-more size h a = fold-append (with_arrival size) [] h (a ∷ [])
+
+  -- a new one in its place is put into the list
+  put-in_place : (a : Entry T) (xs : List (Entry T)) → IsPutInto a xs (in_place a xs)
+  put-in_place a [] = record { front = []; back = []; was = refl; becomes = refl }
+  put-in_place a (b ∷ rest) =
+      let p = put-in_place a rest in
+      elim (nat_lt (moment_of b.stamp) (moment_of a.stamp)) as (λ v. IsPutInto a (b ∷ rest) (cond v (a ∷ b ∷ rest) (b ∷ in_place a rest))) [
+        | true ↦ record { front = []; back = b ∷ rest; was = refl; becomes = refl }
+        | false ↦ record { front = b ∷ p.front; back = p.back; was = ap (λ l. b ∷ l) p.was; becomes = ap (λ l. b ∷ l) p.becomes }
+      ]
+
+  pub accepted-put : (size : ℕ) (h : List (Entry T)) (a : Entry T) → is_accepted size (accepted size h) a ≡ true → IsPutInto a (accepted size h) (accepted size (h ++ a ∷ []))
+  accepted-put size h a e =
+      let now : accepted size (h ++ a ∷ []) ≡ in_place a (accepted size h) = accepted-more size h a ∙ rw e refl in
+      subst (IsPutInto a (accepted size h)) (sym now) (put-in_place a (accepted size h))
+
+  pub accepted-same : (size : ℕ) (h : List (Entry T)) (a : Entry T) → is_accepted size (accepted size h) a ≡ false → accepted size (h ++ a ∷ []) ≡ accepted size h
+  accepted-same size h a e = accepted-more size h a ∙ rw e refl
 
   with_arrival-falling : (size : ℕ) (xs : List (Entry T)) (a : Entry T) → AreFalling xs → AreFalling (with_arrival size xs a)
   with_arrival-falling size xs a p = falls (is_late (boundary size xs) a) (twin a xs) refl

@@ -1,9 +1,9 @@
 -- Packets that a site sends, and how they are delivered.
-use Rattle.std.specs.Prelude.{◌≡◌, ℕ, ◌+◌, ◌-◌, ◌%◌, ◌<◌, ◌≤◌, Bool, true, false, not, ◌||◌, ◌==◌, List, [], ◌∷◌, ◌++◌, map, length, filter}
+use Rattle.std.specs.Prelude.{◌≡◌, ℕ, ◌+◌, ◌-◌, ◌%◌, ◌<◌, ◌≤◌, Bool, true, false, not, ◌||◌, ◌==◌, List, [], ◌∷◌, ◌++◌, map, length, filter, drop}
 use Rattle.std.specs.List.{range_with_len}
 use Rattle.vrt_time.specs.Time.{moment_of}
 use Rattle.reorder_window.specs.declared.entry.Entry.{Entry}
-use Rattle.reorder_window.specs.Window.{lost_before}
+use Rattle.reorder_window.specs.Window.{lost_before, accepted, number_held, released}
 
 -- `packet k` is the k-th packet that was sent, of `total` counted from 0: the stamps rise, and the counts go on by one, modulo 16
 pub record IsSent {T : Type 0} (start total : ℕ) (packet : ℕ → Entry T) : Type 0 where
@@ -49,3 +49,17 @@ AreDistances packet order [] = Unit {0}
 AreDistances packet order (k ∷ []) = Unit {0}
 AreDistances packet order (k ∷ j ∷ rest) =
     (j < k) × (lost_before (packet k) (map packet (j ∷ rest)) ≡ number_absent order j k) × AreDistances packet order (j ∷ rest)
+
+-- a part of a delivery has arrived, and so many draining calls took one: what is accepted and released of it, by one list of numbers
+pub record IsTold {T : Type 0} (packet : ℕ → Entry T) (size : ℕ) (order before : List ℕ) (drained : ℕ) : Type 0 where
+  -- those that arrived, the greatest first
+  pub numbers : List ℕ
+  pub arrived : AreNumbersOf before numbers
+  pub are_accepted : accepted size (map packet before) ≡ map packet numbers
+  -- those that were released, the one released last first
+  pub behind : List ℕ
+  pub are_behind : behind ≡ drop (number_held size (map packet before) drained) numbers
+  pub are_released : released size (map packet before) drained ≡ map packet behind
+  pub distances : AreDistances packet order behind
+  -- whatever arrived below a released one was released
+  pub whole : (j k : ℕ) → occurs k behind ≡ true → occurs j before ≡ true → j < k → occurs j behind ≡ true

@@ -2,3 +2,4 @@ pub mod Window
 pub mod State
 pub mod Steps
 pub mod Delivery
+pub mod SameContext

@@ -25,3 +25,8 @@ module _ {T : Type 0} where
 pub record StandsFor {T : Type 0} (window : Holding T) (arrivals : List (Entry T)) (drained : ℕ) : Type 0 where
   pub held : window.held ≡ held window.size arrivals drained
   pub last : window.last ≡ last_of (released window.size arrivals drained)
+
+-- nothing was drained yet: it stands for some arrivals and no draining call
+pub record IsUndrained {T : Type 0} (window : Holding T) : Type 0 where
+  pub arrivals : List (Entry T)
+  pub stands : StandsFor window arrivals 0

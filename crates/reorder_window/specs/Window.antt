@@ -1,5 +1,5 @@
 -- Which packets a window accepts, holds and releases, and how it answers, by all arrivals so far.
-use Rattle.std.specs.Prelude.{ℕ, ◌+◌, ◌-◌, ◌%◌, ◌<◌, min, Bool, false, not, ◌&&◌, ◌==◌, nat_le, nat_lt, if◌then◌else◌, List, [], ◌∷◌, ◌++◌, length, take, drop, fold, find, Option, Some, None, is_none}
+use Rattle.std.specs.Prelude.{◌≡◌, ℕ, ◌+◌, ◌-◌, ◌%◌, ◌<◌, min, Bool, false, not, ◌&&◌, ◌==◌, nat_le, nat_lt, if◌then◌else◌, List, [], ◌∷◌, ◌++◌, length, take, drop, fold, find, Option, Some, None, is_none}
 use Rattle.vrt_time.specs.Time.{TimeStamp, moment_of}
 use Rattle.reorder_window.specs.declared.entry.Entry.{Entry}
 use Rattle.reorder_window.specs.declared.arrival.Arrival.{Arrival}
@@ -117,3 +117,10 @@ module _ {T : Type 0} where
   released_by (Late stamp item) = []
   released_by (Repeat item) = []
   released_by (Conflict count item) = []
+
+-- one was put somewhere into a list, and all else is as it was
+pub record IsPutInto {T : Type 0} (a : Entry T) (old new : List (Entry T)) : Type 0 where
+  pub front : List (Entry T)
+  pub back : List (Entry T)
+  pub was : old ≡ front ++ back
+  pub becomes : new ≡ front ++ a ∷ back

@@ -1,4 +1,5 @@
 ghost use Rattle.std.specs.Prelude.{◌≡◌, ◌↔◌, Bool, bytes_eq, IsTrue};
+ghost use Rattle.reorder_window.specs.SameContext.{IsSameContext};
 
 use difi_context::ContextRec;
 use vrt_words::PacketBuf;
@@ -28,7 +29,10 @@ impl HeldItem for PacketBuf {
 impl HeldItem for ContextRec {
     ghost is_same = { ⟦<ContextRec as PartialEq>⟧.eq };
 
-    fn same(&self, other: &Self) -> bool {
+    fn same(&self, other: &Self) -> bool
+        ensures test { result ≡ ⟦<ContextRec as PartialEq>⟧.eq self.now other.now }
+        ensures equal { IsTrue result ↔ IsSameContext self.now other.now }
+    {
         self == other
     }
 }

@@ -1,7 +1,7 @@
 ghost use Rattle.std.specs.Prelude.{◌≡◌, ◌≤◌, ℕ, Bool, true, false, List, [], ◌∷◌, ◌++◌, map, IsTrue};
 ghost use Rattle.std.specs.List.{AllByRecursion};
-ghost use Rattle.reorder_window.specs.Window.{accepted, is_accepted, released, answer, answer_accepted, AreFalling};
-ghost use Rattle.reorder_window.specs.Delivery.{IsSent, IsDelivery, occurs, AreLess, AreNumbersOf, AreDistances};
+ghost use Rattle.reorder_window.specs.Window.{accepted, is_accepted, released, answer, answer_accepted, AreFalling, IsPutInto};
+ghost use Rattle.reorder_window.specs.Delivery.{IsSent, IsDelivery, occurs, AreLess, AreNumbersOf, IsTold};
 ghost use Rattle.reorder_window.specs.declared.entry.Entry.{Entry};
 
 /// A law that a proof can cite. Of a delivery within the size of a window, a packet is accepted
@@ -27,26 +27,37 @@ pub fn first_arrivals_are_accepted<T>()
         → (numbers : List ℕ) × (released size (map packet before) 0 ≡ map packet numbers) × AreLess k numbers }
 {}
 
-/// A law that a proof can cite. Of a delivery within the size of a window, the number lost before
-/// each released packet but the first is the number of packets that never arrive between it and the
-/// one released before it: while packets arrive, and while the held are drained afterwards.
+/// A law that a proof can cite. Of a delivery within the size of a window, by one list of numbers:
+/// the accepted are the packets that arrived, each once; the released are the lowest of them, with
+/// all that arrived below one; and the number lost before each released packet but the first is the
+/// number of packets that never arrive between it and the one released before it: while packets
+/// arrive, and while the held are drained afterwards.
 #[inline]
 pub fn numbers_lost_are_absent<T>()
     ensures arriving { (start total size : ℕ) (packet : ℕ → Entry T) (order before later : List ℕ)
         → IsSent start total packet → IsDelivery size total order → order ≡ before ++ later
-        → (numbers : List ℕ) × (released size (map packet before) 0 ≡ map packet numbers)
-        × AreDistances packet order numbers }
+        → IsTold packet size order before 0 }
     ensures draining { (start total size : ℕ) (packet : ℕ → Entry T) (order : List ℕ) (drained : ℕ)
         → IsSent start total packet → IsDelivery size total order
-        → (numbers : List ℕ) × (released size (map packet order) drained ≡ map packet numbers)
-        × AreDistances packet order numbers }
+        → IsTold packet size order order drained }
 {}
 
 /// A law that a proof can cite, for every list of arrivals: the stamps of the accepted fall, so no
 /// two are equal, and what a test says of all arrivals it says of all that are accepted.
+///
+/// Of no arrivals none is accepted. One more that is accepted is put among those that were, which
+/// otherwise stay as they are; and one that is not leaves them so.
 #[inline]
 pub fn accepted_are_arrivals<T>()
     ensures falling { (size : ℕ) (arrivals : List (Entry T)) → AreFalling (accepted size arrivals) }
     ensures arrivals { (size : ℕ) (arrivals : List (Entry T)) (test : Entry T → Bool)
-        → AllByRecursion (λ a. IsTrue (test a)) arrivals → AllByRecursion (λ a. IsTrue (test a)) (accepted size arrivals) }
+        → AllByRecursion (λ a. IsTrue (test a)) arrivals
+        → AllByRecursion (λ a. IsTrue (test a)) (accepted size arrivals) }
+    ensures none { (size : ℕ) → accepted {T = T} size [] ≡ [] }
+    ensures one_more { (size : ℕ) (arrivals : List (Entry T)) (a : Entry T)
+        → IsTrue (is_accepted size (accepted size arrivals) a)
+        → IsPutInto a (accepted size arrivals) (accepted size (arrivals ++ a ∷ [])) }
+    ensures no_more { (size : ℕ) (arrivals : List (Entry T)) (a : Entry T)
+        → is_accepted size (accepted size arrivals) a ≡ false
+        → accepted size (arrivals ++ a ∷ []) ≡ accepted size arrivals }
 {}

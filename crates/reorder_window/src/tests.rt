@@ -148,13 +148,13 @@ fn packets_below_the_boundary_are_late(rt: HostRuntime) -> Result<(), Fail> {
 
 #[test]
 fn other_bytes_of_one_stamp_are_a_conflict(rt: HostRuntime) -> Result<(), Fail> {
-    let mut window = Window::open(rt.alloc(), 1).ok().ok_or("memory")?;
     let mut first = PacketBuf::open(rt.alloc(), 1).ok().ok_or("memory")?;
     let mut again = PacketBuf::open(rt.alloc(), 2).ok().ok_or("memory")?;
     let mut other = PacketBuf::open(rt.alloc(), 1).ok().ok_or("memory")?;
     first.fill(&[1, 2, 3]);
     again.fill(&[1, 2, 3]);
     other.fill(&[1, 2, 4]);
+    let mut window = Window::open(rt.alloc(), 1).ok().ok_or("memory")?;
     assert!(rt; matches!(window.arrive(at(5), 3, first), Arrival::Kept));
     assert!(rt; matches!(window.arrive(at(5), 5, again), Arrival::Repeat { .. }));
     assert!(rt;

@@ -1,5 +1,5 @@
 ghost use Rattle.std.specs.Prelude.{◌≡◌, ℕ, ◌+◌, ◌≤◌, [], List, ◌∷◌, ◌++◌, None, IfOk, IfSome, IfNone, OnSome};
-ghost use Rattle.reorder_window.specs.State.{StandsFor};
+ghost use Rattle.reorder_window.specs.State.{StandsFor, IsUndrained};
 ghost use Rattle.reorder_window.specs.Steps.{IsGiven};
 ghost use Rattle.reorder_window.specs.Window.{answer, releases, released_by};
 ghost use Rattle.reorder_window.specs.declared.entry.Entry.{Entry};
@@ -40,6 +40,7 @@ impl<T> Window<T> {
         requires { size ≤ 4096 }
         ensures size { IfOk result (λ window. window.size ≡ size) }
         ensures stands { IfOk result (λ window. StandsFor window [] 0) }
+        ensures undrained { IfOk result (λ window. IsUndrained window) }
 
         // The same, by what the window keeps.
         ensures empty { IfOk result (λ window. window ≡ record { size = size; held = []; last = None }) }
@@ -76,7 +77,8 @@ impl<T> Window<T> {
 impl<T: HeldItem> Window<T> {
     /// Takes a packet of this stamp and count, modulo 16, that has arrived. Nothing was drained yet.
     pub fn arrive(&mut self, stamp: Stamp, count: u8, item: T) -> Arrival<T>
-        requires { count ≤ 15 }
+        requires count { count ≤ 15 }
+        requires undrained { IsUndrained self.old }
 
         // The answer is the one that is defined, and the window stands for the arrivals with this one.
         ensures answer { (arrivals : List (Entry T)) → StandsFor self.old arrivals 0
@@ -86,6 +88,7 @@ impl<T: HeldItem> Window<T> {
         ensures given { (arrivals : List (Entry T)) → StandsFor self.old arrivals 0
             → releases self.old.size (arrivals ++ record { stamp = stamp; count = count; item = item } ∷ []) 0
             ≡ releases self.old.size arrivals 0 ++ released_by result }
+        ensures undrained { IsUndrained self.new }
         ensures size { self.new.size ≡ self.old.size }
     {
         match judge(&self.held, &self.last, stamp, &item) {

@@ -101,6 +101,11 @@ abbrev pub IsFailed : Option RecordFault → Reading → List ℕ → ℕ → Re
 IsFailed (Some fault) old piece offset new = (offset ≡ fault.offset) × (new ≡ old)
 IsFailed None old piece offset new = IsNewFault old piece offset new
 
+-- whether the header has come, and what it says, is as before
+pub record KeepsHead (old new : Reading) : Type 0 where
+  pub started : new.started ≡ old.started
+  pub head : new.head ≡ old.head
+
 -- what the reader keeps true, with the number of the header's fields that are judged, and the room for bytes and routes
 pub record Keeps (reading : Reading) (judged held_room routes_room : ℕ) (routes : List Route) : Type 0 where
   pub held_fit : 65555 ≤ held_room

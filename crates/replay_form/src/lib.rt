@@ -1,6 +1,8 @@
 //! The record of received datagrams: a header and frames, read in any pieces and written.
 #![tactic(auto)]
 
+#[cfg(test)]
+mod edge_tests;
 mod event;
 mod frame_field;
 mod frame_spelling;

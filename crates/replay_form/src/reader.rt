@@ -3,7 +3,7 @@ ghost use Rattle.replay_form.specs.Head.{IsSpelledHead};
 ghost use Rattle.replay_form.specs.HeadValues.{AreHeadValues};
 ghost use Rattle.replay_form.specs.FrameFields.{Frame, IsWholeFrame};
 ghost use Rattle.replay_form.specs.Numbers.{number_at};
-ghost use Rattle.replay_form.specs.Reading.{StandsFor, IsFresh, IsStep, IsFailed, IsNewFault, IsFinished, IsUnfinished, begun, frames_after, held_frame};
+ghost use Rattle.replay_form.specs.Reading.{StandsFor, IsFresh, IsStep, IsFailed, IsNewFault, IsFinished, IsUnfinished, KeepsHead, begun, frames_after, held_frame};
 ghost use Rattle.replay_form.specs.Record.{IsRecord, IsRecordWrongAt, EndsInside, first_stamp};
 ghost use Rattle.vrt_time.specs.Time.{TimeStamp, stamp_of};
 
@@ -84,7 +84,7 @@ impl RecordReader {
     /// Takes bytes of the piece up to the next whole header or frame, and answers how many.
     ///
     /// `More` says that all were taken. `Err` comes at the first field that is wrong, as soon as its
-    /// bytes are there, and then at every later call.
+    /// bytes are there, and then at every later call; a header that is whole stays.
     pub fn feed(&mut self, piece: &[u8]) -> Result<(usize, Event), RecordFault>
         requires { self.old.fault ≡ None → self.old.start + length (begun self.old) + length piece.now < 2 ^ 63 }
 
@@ -101,6 +101,7 @@ impl RecordReader {
         ensures step { IfOk result (λ step. IsStep self.old piece.now step.0 step.1 self.new) }
         ensures wrong { IfErr result (λ fault. IsFailed self.old.fault self.old piece.now fault.offset self.new) }
         ensures idle { OnErr result (self.new.whole ≡ false) }
+        ensures kept { OnErr result (KeepsHead self.old self.new) }
     {
         self.advance(piece)
     }
@@ -167,6 +168,7 @@ impl RecordReader {
         ensures progress { IfOk result (λ step. 0 < length piece.now → 0 < step.0) }
         ensures wrong { IfErr result (λ fault. IsFailed self.old.fault self.old piece.now fault.offset self.new) }
         ensures idle { OnErr result (self.new.whole ≡ false) }
+        ensures kept { OnErr result (KeepsHead self.old self.new) }
     {
         if let Some(fault) = self.fault {
             return Err(fault);
@@ -197,6 +199,7 @@ impl RecordReader {
         ensures step { IfOk result (λ step. IsStep self.old piece.now step.0 step.1 self.new) }
         ensures progress { IfOk result (λ step. 0 < length piece.now → 0 < step.0) }
         ensures wrong { IfErr result (λ fault. IsNewFault self.old piece.now fault.offset self.new) }
+        ensures kept { OnErr result (KeepsHead self.old self.new) }
     {
         match take_head(&mut self.held, self.judged, piece) {
             Ok(HeadTaken::Part(judged)) => {
@@ -231,6 +234,7 @@ impl RecordReader {
         ensures step { IfOk result (λ step. IsStep self.old piece.now step.0 step.1 self.new) }
         ensures progress { IfOk result (λ step. 0 < length piece.now → 0 < step.0) }
         ensures wrong { IfErr result (λ fault. IsNewFault self.old piece.now fault.offset self.new) }
+        ensures kept { OnErr result (KeepsHead self.old self.new) }
     {
         match take_frame(&mut self.held, self.last, piece) {
             Ok(FrameTaken::Part) => Ok((piece.len(), Event::More)),

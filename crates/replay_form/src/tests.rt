@@ -4,133 +4,8 @@ ghost use Rattle.replay_form.specs.HeadValues.{AreHeadValues};
 use super::*;
 use std::alloc::Global;
 use std::test::Fail;
+use test_records::{BASE, HEADER, frame_head};
 use vrt_words::{NoMemory, put_words};
-
-/// The words of a header without routes: form 1, at most 400 words a packet, no windows, four
-/// contexts kept, eight packets waiting. RF, gain and sample rate can be set.
-const HEADER: [u32; 83] = [
-    0x4449_4649,
-    0x5245_4331,
-    0x006A_621E,
-    1,
-    400,
-    0,
-    0,
-    4,
-    8,
-    0,
-    // No identity.
-    0,
-    0,
-    0,
-    0,
-    0,
-    // The initial fields.
-    0x64,
-    0x44,
-    0x5C00_0000,
-    0x42C1,
-    0xD800_0000,
-    0x0004_7868,
-    0xC000_0000,
-    0,
-    0,
-    0,
-    0x500,
-    0x55,
-    0x7300_0000,
-    0,
-    0,
-    0,
-    0xC00C_0000,
-    0xA000_03CF,
-    0,
-    // Bandwidth and IF reference.
-    0,
-    0,
-    0,
-    0,
-    0,
-    0,
-    0,
-    0,
-    0,
-    0,
-    0,
-    0,
-    0,
-    0,
-    // RF reference: from 1 to 2 GHz by 1 Hz.
-    1,
-    0,
-    0x0010_0000,
-    0x0003_B9AC,
-    0xA000_0000,
-    0x0007_7359,
-    0x4000_0000,
-    // IF offset and reference level.
-    0,
-    0,
-    0,
-    0,
-    0,
-    0,
-    0,
-    0,
-    0,
-    0,
-    0,
-    0,
-    0,
-    0,
-    // Gain: from -20 to 20 dB by half a decibel.
-    1,
-    0,
-    64,
-    0xFFFF_FFFF,
-    0xFFFF_F600,
-    0,
-    2_560,
-    // Sample rate: from 100 kHz to 1 MHz by 1 Hz.
-    1,
-    0,
-    0x0010_0000,
-    0x18,
-    0x6A00_0000,
-    0xF4,
-    0x2400_0000,
-];
-
-/// A context packet of the first stream.
-const CONTEXT: [u32; 27] = [
-    0x4960_001B,
-    1,
-    0x006A_621E,
-    1,
-    0x6553_F100,
-    0,
-    0,
-    0xFBB9_8000,
-    0x64,
-    0x44,
-    0x5C00_0000,
-    0x42C1,
-    0xD800_0000,
-    0x0004_7868,
-    0xC000_0000,
-    0,
-    0,
-    0,
-    0x500,
-    0x55,
-    0x7300_0000,
-    0,
-    0,
-    0,
-    0xC00C_0000,
-    0xA000_03CF,
-    0,
-];
 
 // A header without routes.
 fn header() -> [u8; 332] {
@@ -142,18 +17,14 @@ fn header() -> [u8; 332] {
 // A header with one route, from stream 1 to port 9.
 fn routed() -> [u8; 340] {
     let mut bytes = [0; 340];
-    put_words(&mut bytes, 0, &HEADER);
-    put_words(&mut bytes, 9, &[1]);
-    put_words(&mut bytes, 83, &[1, 0x0009_0000]);
+    put_words(&mut bytes, 0, &test_records::routed());
     bytes
 }
 
 // The same in form 2.
 fn second_form() -> [u8; 348] {
     let mut bytes = [0; 348];
-    put_words(&mut bytes, 0, &HEADER);
-    put_words(&mut bytes, 1, &[0x5245_4332]);
-    put_words(&mut bytes, 9, &[1]);
+    put_words(&mut bytes, 0, &test_records::second_form());
     put_words(&mut bytes, 83, &[1, 0x0001_0009, 0, 0]);
     bytes
 }
@@ -193,7 +64,10 @@ fn verdict(
 }
 
 // The verdict in one piece.
-fn whole_verdict(alloc: Global, bytes: &[u8]) -> Result<(u64, Result<(), RecordFault>), NoMemory>
+pub(crate) fn whole_verdict(
+    alloc: Global,
+    bytes: &[u8],
+) -> Result<(u64, Result<(), RecordFault>), NoMemory>
     requires { length bytes.now < 2 ^ 32 }
 {
     verdict(alloc, bytes, 4_096)
@@ -224,9 +98,9 @@ fn front_verdict(
 fn framed(seconds: u32) -> [u8; 488] {
     let mut bytes = [0; 488];
     bytes[..340].copy_from_slice(&routed());
-    put_words(&mut bytes, 85, &[0x6553_F10A, 0, 0, 0x0005_0000, 108]);
-    put_words(&mut bytes, 90, &CONTEXT);
-    put_words(&mut bytes, 117, &[seconds, 0, 0, 0x0005_0000, 0]);
+    put_words(&mut bytes, 85, &frame_head(0x6553_F10A, 108));
+    put_words(&mut bytes, 90, &BASE);
+    put_words(&mut bytes, 117, &frame_head(seconds, 0));
     bytes
 }
 
@@ -263,9 +137,7 @@ fn a_fault_has_the_offset_of_its_field(rt: HostRuntime) -> Result<(), Fail> {
     assert!(rt; whole_verdict(alloc, &bytes).ok() == Some((0, bad(344))));
     // The same port twice in a route of form 2.
     let mut bytes = [0; 348];
-    put_words(&mut bytes, 0, &HEADER);
-    put_words(&mut bytes, 1, &[0x5245_4332]);
-    put_words(&mut bytes, 9, &[1]);
+    put_words(&mut bytes, 0, &test_records::second_form());
     put_words(&mut bytes, 83, &[1, 0x0002_0009, 0x0009_0000, 0]);
     assert!(rt; verdict(alloc, &bytes, 1).ok() == Some((0, bad(340))));
     Ok(())

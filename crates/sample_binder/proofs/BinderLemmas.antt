@@ -18,7 +18,7 @@ use Rattle.context_timeline.specs.Line.{Line, line_of, horizon_of, stamp_in}
 use Rattle.context_timeline.proofs.LineLaws.{line_of-push, horizon_of-line_of}
 use Rattle.reorder_window.specs.declared.entry.Entry.{Entry}
 use Rattle.reorder_window.specs.State as window
-use Rattle.reorder_window.specs.State.{Holding}
+use Rattle.reorder_window.specs.State.{Holding, IsUndrained}
 use Rattle.reorder_window.specs.Window.{AreFalling, AreBelow, accepted, number_held, release, in_order, releases, answer}
 use Rattle.reorder_window.proofs.WindowLaws.{every-accepted, every-release}
 use Rattle.vrt_fields.specs.declared.limits.Limits.{Limits}
@@ -28,7 +28,7 @@ use Rattle.sample_binder.specs.Arrivals.{released_list, releases_by, Takes}
 use Rattle.sample_binder.specs.Binder.{Bound, IsBound, Follows, AreContextsSeen, ArePacketsSeen, left_events, end_events}
 use Rattle.sample_binder.specs.Calls.{Call, ContextCall, DataCall, EndCall, context_arrivals, data_arrivals, context_entry, data_entry, is_told, context_event, data_event, behind, events_by, events_from, events_of, outcome}
 use Rattle.sample_binder.specs.Events.{Event}
-use Rattle.sample_binder.specs.Given.{IsContextEntry, IsDataEntry, IsDataBytes, IsDataOf, IsLater}
+use Rattle.sample_binder.specs.Given.{IsContextEntry, IsDataEntry, IsDataBytes, IsDataOf, HasDataSize, IsLater}
 use Rattle.sample_binder.specs.Queue.{State, owed}
 use Rattle.sample_binder.specs.Queue as queue
 use Rattle.sample_binder.specs.Released.{released_context, with_released}
@@ -329,6 +329,21 @@ size_told : (kind : Kind) (timed : Bool) (size : ℕ) → is_size kind timed siz
 size_told Data timed size h e = grind arith
 size_told kind timed size h e = absurd (cc)
 
+size_least : (kind : Kind) (timed : Bool) (size : ℕ) → is_size kind timed size ≡ true → kind ≡ Data → 8 ≤ size
+size_least Data timed size h e = grind arith
+size_least kind timed size h e = absurd (cc)
+
+-- how long it is
+pub data_size : (profile : PacketProfile) (bytes : List ℕ) → IsDataOf profile bytes → HasDataSize bytes
+data_size profile bytes h =
+    let p = h.packet.prologue in
+    let d = h.datagram.packet in
+    record {
+      whole = h.datagram.whole;
+      least = omega (arith, d.size, size_least p.header.kind p.header.timed p.header.size d.prologue.header.size_allowed d.kind);
+      most = omega (arith, d.size, size_told p.header.kind p.header.timed p.header.size d.prologue.header.size_allowed d.kind);
+    }
+
 stamped : (timed : Bool) (stamp : Option TimeStamp) (words : List ℕ) → IsStamped timed stamp words → timed ≡ true → fraction_of (get_or words 5 0) (get_or words 6 0) < 10 ^ 12
 stamped true stamp words h e = h.0
 stamped false stamp words h e = absurd (cc)
@@ -434,3 +449,16 @@ module _ (same : Buffer → Buffer → Bool) (limits : Limits) (old new : Holdin
         left = ap (λ xs. (h.done ++ map data_event rs) ++ xs) (none more h.contexts_drained 0 after.ended (told_same ∙ untold)) ∙ append-nil (h.done ++ map data_event rs)
             ∙ ap (λ xs. xs ++ map data_event rs) done_is ∙ ap (λ xs. events_of limits calls ++ xs) (sym event) ∙ sym (events_of-more limits calls (DataCall buf));
       }
+
+-- while the end was not told, nothing was drained from a window
+pub undrained_contexts : (kept given : ℕ) (holding : Holding ContextRec) (line : Line) (told : Bool) → AreContextsSeen kept given holding line told → told ≡ false → IsUndrained holding
+undrained_contexts kept given holding line told seen untold = record {
+  arrivals = seen.arrivals;
+  stands = subst (λ n. window.StandsFor holding seen.arrivals n) (seen.undrained untold) seen.stands;
+}
+
+pub undrained_packets : (holding : Holding Buffer) (told : Bool) → ArePacketsSeen holding told → told ≡ false → IsUndrained holding
+undrained_packets holding told seen untold = record {
+  arrivals = seen.arrivals;
+  stands = subst (λ n. window.StandsFor holding seen.arrivals n) (seen.undrained untold) seen.stands;
+}

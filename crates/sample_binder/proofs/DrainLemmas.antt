@@ -1,5 +1,5 @@
 -- What draining the windows makes of a binder.
-use Rattle.std.proofs.Common.{◌≡◌, ◌≢◌, ◌↔◌, IsTrue, ℕ, ◌+◌, Bool, true, false, cond, List, [], ◌∷◌, ◌++◌, length, map, Some, refl, sym, ap, ◌∙◌, subst, arith, length-append, append_assoc}
+use Rattle.std.proofs.Common.{◌≡◌, ◌≢◌, ◌↔◌, IsTrue, ℕ, ◌+◌, Bool, true, false, cond, List, [], ◌∷◌, ◌++◌, length, map, Some, refl, sym, ap, ◌∙◌, subst, arith, append_assoc}
 use Rattle.std.proofs.lemmas.List.{append-nil}
 use Rattle.vrt_words.specs.Buffer.{Buffer}
 use Rattle.vrt_time.specs.Time.{TimeStamp}
@@ -8,13 +8,12 @@ use Rattle.context_timeline.specs.Line.{Line, line_of, with_context}
 use Rattle.reorder_window.specs.declared.entry.Entry.{Entry}
 use Rattle.reorder_window.specs.State as window
 use Rattle.reorder_window.specs.State.{Holding}
-use Rattle.reorder_window.specs.Steps.{IsGiven}
 use Rattle.reorder_window.specs.Window.{AreFalling, accepted, held, releases}
 use Rattle.vrt_fields.specs.declared.limits.Limits.{Limits}
 use Rattle.sample_binder.specs.declared.out.Out.{Out}
 use Rattle.sample_binder.specs.Binder.{Follows, AreContextsSeen, ArePacketsSeen, left_events, end_events}
 use Rattle.sample_binder.specs.Calls.{Call, context_arrivals, data_arrivals, is_told, context_event, data_event, behind, all_releases}
-use Rattle.sample_binder.specs.Drained.{MayDrain, Drains}
+use Rattle.sample_binder.specs.Drained.{MayDrain}
 use Rattle.sample_binder.specs.Events.{Event, EndEvent}
 use Rattle.sample_binder.specs.Given.{IsLater, IsDataBytes}
 use Rattle.sample_binder.specs.Queue.{State}

@@ -1,5 +1,5 @@
 -- The end is told, and the next output is taken.
-use Rattle.std.proofs.Common.{◌≡◌, ◌≢◌, ◌↔◌, IsTrue, ◌⊎◌, ℕ, ◌+◌, ◌<◌, ◌≤◌, Bool, true, false, cond, List, [], ◌∷◌, ◌++◌, length, drop, map, slice_get, Some, None, refl, sym, ap, ◌∙◌, subst, inl, inr, arith, length-drop}
+use Rattle.std.proofs.Common.{◌≡◌, ◌≢◌, ◌↔◌, IsTrue, ◌⊎◌, ℕ, ◌+◌, ◌<◌, ◌≤◌, Bool, true, false, cond, List, [], ◌∷◌, ◌++◌, length, drop, map, slice_get, Some, None, refl, sym, ap, ◌∙◌, subst, inl, inr, arith, length-append, length-drop}
 use Rattle.std.proofs.lemmas.List.{append-nil, drop-append-le, length-take-le}
 use Rattle.std.proofs.lemmas.Option.{slice_get_past, slice_get_within}
 use Rattle.vrt_words.specs.Buffer.{Buffer}
@@ -99,6 +99,13 @@ module _ (limits : Limits) (contexts : Holding ContextRec) (packets : Holding Bu
         rest ++ p.0,
         ap (drop taken) all ∙ drop-append-le taken (outputs limits h.done) p.0 h.queue_stands.taken_within ∙ ap (λ xs. xs ++ p.0) (h.queue_stands.rest ∙ e),
       )
+
+  -- no more outputs were taken than there are
+  pub taken_within : taken ≤ length (outputs_of limits calls)
+  taken_within =
+      let p = outputs-prefix limits (left_events limits calls h.contexts_drained h.packets_drained state.ended) h.done in
+      let all : outputs_of limits calls ≡ outputs limits h.done ++ p.0 = ap (outputs limits) (sym h.left) ∙ p.1 in
+      omega (arith, h.queue_stands.taken_within, ap length all, length-append (outputs limits h.done) p.0)
 
   pub given_next : (given : Out) (rest : List Out) → owed state ≡ given ∷ rest → Some given ≡ slice_get (outputs_of limits calls) taken
   given_next given rest e =

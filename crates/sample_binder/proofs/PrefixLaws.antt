@@ -56,15 +56,21 @@ first_left passes n (suc most) e = elim (some_or_none (may_leave passes n (suc m
 ]
 
 -- one more event adds something behind
-one_more : (limits : Limits) (events : List Event) (event : Event) → (more : List Out) × (outputs limits (events ++ event ∷ []) ≡ outputs limits events ++ more)
-one_more limits events event =
+pub one_more_owes : (limits : Limits) (events : List Event) (event : Event) → (left : ℕ)
+    × (outputs limits (events ++ event ∷ []) ≡ outputs limits events ++ queue_owes limits.pending (line_after limits.kept (events ++ event ∷ [])) (has_ended (events ++ event ∷ [])) (drop left (packets_of (events ++ event ∷ []))))
+one_more_owes limits events event =
     let passes = has_case_after limits events in
     let n = length events in
     let most = length (packets_of events) in
     let f = first_left passes n most (from_never (passes most) n (may_leave passes n most) (λ k. no_case_past limits events most k (omega arith))) in
     let grows : most ≤ length (packets_of (events ++ event ∷ [])) = omega (arith, ap length (packets-append events (event ∷ [])), length-append (packets_of events) (packets_of (event ∷ []))) in
+    (f.left, outputs-more limits events event f.left f.since f.within grows f.are_due f.not_due)
+
+one_more : (limits : Limits) (events : List Event) (event : Event) → (more : List Out) × (outputs limits (events ++ event ∷ []) ≡ outputs limits events ++ more)
+one_more limits events event =
     let all = events ++ event ∷ [] in
-    (queue_owes limits.pending (line_after limits.kept all) (has_ended all) (drop f.left (packets_of all)), outputs-more limits events event f.left f.since f.within grows f.are_due f.not_due)
+    let o = one_more_owes limits events event in
+    (queue_owes limits.pending (line_after limits.kept all) (has_ended all) (drop o.0 (packets_of all)), o.1)
 
 pub outputs-prefix : (limits : Limits) (later events : List Event) → (more : List Out) × (outputs limits (events ++ later) ≡ outputs limits events ++ more)
 outputs-prefix limits [] events = ([], ap (outputs limits) (append-nil events) ∙ sym (append-nil (outputs limits events)))

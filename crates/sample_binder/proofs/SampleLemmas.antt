@@ -60,3 +60,12 @@ number_positive shape bits n b e =
     let p = untested used (2 * bits) h.0 in
     let w = whole used (2 * bits) (omega arith) p.0 p.1 in
     omega (arith, w.0, h.1)
+
+-- their bits are all that are used
+pub number_exact : (shape : Shape) (bits n : ℕ) → 0 < bits → number_of shape bits ≡ Some n → 2 * bits * n ≡ used_bits shape
+number_exact shape bits n b e =
+    let used = used_bits shape in
+    let h = counted (nat_lt 0 used && used % (2 * bits) == 0) (used / (2 * bits)) n e in
+    let p = untested used (2 * bits) h.0 in
+    let w = whole used (2 * bits) (omega arith) p.0 p.1 in
+    ap (λ k. 2 * bits * k) (sym h.1) ∙ w.1

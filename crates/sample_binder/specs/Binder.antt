@@ -1,5 +1,5 @@
 -- What a contract sees of a binder, and what it stands for.
-use Rattle.std.specs.Prelude.{◌≡◌, ℕ, ◌≤◌, ◌^◌, Bool, true, false, if◌then◌else◌, List, [], ◌∷◌, ◌++◌, length, map, Result, Ok, Err}
+use Rattle.std.specs.Prelude.{◌≡◌, ℕ, ◌+◌, ◌≤◌, ◌^◌, Bool, true, false, if◌then◌else◌, List, [], ◌∷◌, ◌++◌, length, map, Result, Ok, Err}
 use Rattle.std.specs.List.{AllByRecursion}
 use Rattle.vrt_words.specs.Buffer.{Buffer}
 use Rattle.vrt_header.specs.Profile.{PacketProfile}
@@ -29,6 +29,10 @@ pub record Bound : Type 0 where
   pub state : State
   pub given : ℕ
   pub told : Bool
+
+-- how many data packets it keeps: those that the window holds, and those that wait
+abbrev pub number_kept : Bound → ℕ
+number_kept bound = length bound.packets.held + length bound.state.queue
 
 -- the events that are left after the end was told: what the windows still hold, and the end
 abbrev pub end_events : Limits → List Call → ℕ → ℕ → List Event

@@ -101,6 +101,10 @@ events_of limits calls = events_from limits [] calls
 abbrev pub outputs_of : Limits → List Call → List Out
 outputs_of limits calls = outputs limits (events_of limits calls)
 
+-- what a call adds to what the calls before it gave
+abbrev pub given_by : Limits → List Call → Call → List Out
+given_by limits calls call = behind (outputs_of limits calls) (outputs_of limits (calls ++ call ∷ []))
+
 -- how an arrival is answered: what it releases, or why it is not taken, with the packet
 abbrev pub outcome : {T : Type 0} → Arrival T → Result (Option (TimeStamp × ℕ × T)) (Turned × T)
 outcome arrival.Kept = Ok None

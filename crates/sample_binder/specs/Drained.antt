@@ -29,3 +29,4 @@ pub record Drains (contexts : Holding ContextRec) (packets : Holding Buffer) (st
   pub context_size : contexts_after.size ≡ contexts.size
   pub data_size : packets_after.size ≡ packets.size
   pub pending : after.pending ≡ state.pending
+  pub kept : length packets_after.held + length after.queue ≡ length packets.held + length state.queue

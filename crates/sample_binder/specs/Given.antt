@@ -1,5 +1,5 @@
 -- What is true of the packets that a binder is given.
-use Rattle.std.specs.Prelude.{◌≡◌, ℕ, ◌^◌, ◌<◌, ◌≤◌, List, length, slice_index, IfSome}
+use Rattle.std.specs.Prelude.{◌≡◌, ℕ, ◌*◌, ◌^◌, ◌<◌, ◌≤◌, List, length, slice_index, IfSome}
 use Rattle.vrt_words.specs.Words.{words_of}
 use Rattle.vrt_words.specs.Begins.{IsDatagram}
 use Rattle.vrt_words.specs.Buffer.{Buffer}
@@ -22,6 +22,12 @@ pub record IsDataBytes (bytes : List ℕ) : Type 0 where
   pub enough : 7 ≤ length (words_of bytes)
   pub most : length (words_of bytes) ≤ 16376
   pub fraction : fraction_of (slice_index (words_of bytes) 5) (slice_index (words_of bytes) 6) < 10 ^ 12
+
+-- how long a data packet is: whole words, seven and a payload of one at least
+pub record HasDataSize (bytes : List ℕ) : Type 0 where
+  pub whole : length bytes ≡ 4 * length (words_of bytes)
+  pub least : 8 ≤ length (words_of bytes)
+  pub most : length (words_of bytes) ≤ 16376
 
 -- of each arrival at the windows
 pub record IsContextEntry (arrived : Entry ContextRec) : Type 0 where

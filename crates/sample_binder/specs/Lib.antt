@@ -1,3 +1,5 @@
+pub mod Reasons
+pub mod RunRules
 pub mod Events
 pub mod Samples
 pub mod Due
@@ -15,3 +17,4 @@ pub mod Released
 pub mod Binder
 pub mod Drained
 pub mod Readings
+pub mod Parts

@@ -16,6 +16,11 @@ abbrev pub open_reason : Bool → Reason
 open_reason true = reason.Ended
 open_reason false = reason.PendingFull
 
+-- how many packets an output has
+abbrev pub packets_in : Out → ℕ
+packets_in (out.Packet buf lost) = 1
+packets_in (out.Run run) = 0
+
 -- a packet and its runs
 abbrev pub packet_and_runs : Line → Reason → Pending → List Out
 packet_and_runs line why packet = out.Packet packet.buf packet.lost ∷ map out.Run (runs_of line why packet.shape)

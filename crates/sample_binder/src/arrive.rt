@@ -2,7 +2,7 @@ ghost use Rattle.std.specs.Prelude.{◌≡◌, ℕ, ◌≤◌, List, [], ◌∷�
 ghost use Rattle.vrt_words.specs.Buffer.{Buffer};
 ghost use Rattle.difi_context.specs.Context.{IsInGrammar};
 ghost use Rattle.reorder_window.specs.declared.entry.Entry.{Entry};
-ghost use Rattle.reorder_window.specs.State.{StandsFor};
+ghost use Rattle.reorder_window.specs.State.{StandsFor, IsUndrained};
 ghost use Rattle.reorder_window.specs.Window.{AreFalling, accepted, answer, releases};
 ghost use Rattle.sample_binder.specs.Calls.{outcome, context_entry, data_entry};
 ghost use Rattle.sample_binder.specs.Arrivals.{releases_by, Takes};
@@ -22,7 +22,8 @@ pub(crate) fn arrive<T: HeldItem>(
     count: u8,
     item: T,
 ) -> Result<Option<(Stamp, u8, T)>, (Turned, T)>
-    requires { count ≤ 15 }
+    requires count { count ≤ 15 }
+    requires undrained { IsUndrained window.old }
     ensures answer { (arrivals : List (Entry T)) → StandsFor window.old arrivals 0
         → result ≡ outcome (answer T.is_same window.old.size arrivals (record { stamp = stamp; count = count; item = item })) }
     ensures stands { (arrivals : List (Entry T)) → StandsFor window.old arrivals 0
@@ -49,6 +50,7 @@ pub(crate) fn arrive_context(
 ) -> Result<Option<(Stamp, u8, ContextRec)>, (Turned, ContextRec)>
     requires grammar { IsInGrammar rec }
     requires count { rec.prologue.header.count ≤ 15 }
+    requires undrained { IsUndrained window.old }
     ensures takes { (arrivals : List (Entry ContextRec)) → StandsFor window.old arrivals 0
         → Takes ⟦<ContextRec as HeldItem>⟧.is_same window.old window.new arrivals (context_entry rec) result }
     ensures size { window.new.size ≡ window.old.size }
@@ -66,6 +68,7 @@ pub(crate) fn arrive_data(
     buf: PacketBuf,
 ) -> Result<Option<(Stamp, u8, PacketBuf)>, (Turned, PacketBuf)>
     requires front { IsDataBytes buf.bytes }
+    requires undrained { IsUndrained window.old }
     ensures takes { (arrivals : List (Entry Buffer)) → StandsFor window.old arrivals 0
         → Takes ⟦<PacketBuf as HeldItem>⟧.is_same window.old window.new arrivals (data_entry buf) result }
     ensures size { window.new.size ≡ window.old.size }

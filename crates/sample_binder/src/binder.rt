@@ -1,11 +1,12 @@
-ghost use Rattle.std.specs.Prelude.{◌≡◌, ◌≢◌, ℕ, ◌+◌, ◌<◌, ◌≤◌, ◌^◌, ◌↔◌, true, false, List, [], ◌∷◌, ◌++◌, length, slice_get, bytes_eq, Result, IsTrue, IfOk, IfErr, OnOk, OnErr, OnSome, IfNone};
+ghost use Rattle.std.specs.Prelude.{◌≡◌, ◌≢◌, ℕ, ◌+◌, ◌<◌, ◌≤◌, ◌^◌, ◌↔◌, true, false, List, [], ◌∷◌, ◌++◌, length, slice_get, bytes_eq, Result, IsTrue, IfOk, IfErr, OnOk, OnErr, OnSome, IfSome, IfNone};
 ghost use Rattle.difi_context.specs.Context.{IsSpelled};
 ghost use Rattle.reorder_window.specs.Window.{answer};
 ghost use Rattle.sample_binder.specs.Calls.{Call, ContextCall, DataCall, EndCall, context_arrivals, data_arrivals, context_entry, data_entry, outputs_of, outcome};
+ghost use Rattle.sample_binder.specs.Outputs.{packets_in};
 ghost use Rattle.sample_binder.specs.Queue.{owed};
 ghost use Rattle.sample_binder.specs.Given.{IsDataOf};
 ghost use Rattle.vrt_fields.specs.Limits.{AreLimits};
-ghost use Rattle.sample_binder.specs.Binder.{StandsFor, SameBinder, without_packet, without_release};
+ghost use Rattle.sample_binder.specs.Binder.{StandsFor, SameBinder, number_kept, without_packet, without_release};
 
 use crate::arrive::{arrive_context, arrive_data};
 use crate::binding::Binding;
@@ -53,6 +54,7 @@ impl Binder {
         ensures stands { IfOk result (λ binder. StandsFor binder [] 0) }
         ensures fields { IfOk result (λ binder. (binder.profile ≡ profile) × (binder.limits ≡ limits) × (binder.given ≡ 0) × (binder.told ≡ false)) }
         ensures nothing { IfOk result (λ binder. owed binder.state ≡ []) }
+        ensures none_kept { IfOk result (λ binder. number_kept binder ≡ 0) }
     {
         let contexts = match Window::open(alloc, limits.context_window) {
             Ok(contexts) => contexts,
@@ -89,6 +91,7 @@ impl Binder {
         ensures stands { (calls : List Call) (taken : ℕ) → StandsFor self.old calls taken
             → StandsFor self.new (calls ++ ContextCall rec ∷ []) taken }
         ensures kept { SameBinder self.old self.new }
+        ensures as_many { number_kept self.new ≡ number_kept self.old }
         ensures given { OnOk result (self.new.given ≡ self.old.given + 1) }
         ensures err { OnErr result (self.new ≡ self.old) }
     {
@@ -116,6 +119,12 @@ impl Binder {
         ensures stands { (calls : List Call) (taken : ℕ) → StandsFor self.old calls taken
             → StandsFor self.new (calls ++ DataCall buf ∷ []) taken }
         ensures kept { SameBinder self.old self.new }
+
+        // One more is held or waits, and no more than that are held and wait.
+        ensures one_more { OnOk result (number_kept self.new ≡ number_kept self.old + 1) }
+        ensures few_kept { number_kept self.new
+            ≤ self.new.limits.data_window + 1 + self.new.limits.pending }
+        ensures few_wait { length self.new.state.queue ≤ self.new.limits.pending + 1 }
         ensures given { OnOk result (self.new.given ≡ self.old.given + 1) }
         ensures buffer { IfErr result (λ turned. turned.1 ≡ buf) }
         ensures err { OnErr result (self.new ≡ self.old) }
@@ -140,6 +149,7 @@ impl Binder {
         ensures profile { self.new.profile ≡ self.old.profile }
         ensures limits { self.new.limits ≡ self.old.limits }
         ensures given { self.new.given ≡ self.old.given }
+        ensures as_many { number_kept self.new ≡ number_kept self.old }
         ensures told { self.new.told ≡ true }
     {
         self.told = true;
@@ -155,6 +165,8 @@ impl Binder {
             → OnSome result (StandsFor self.new calls (taken + 1)) }
         ensures kept { SameBinder self.old self.new }
         ensures count { self.new.given ≡ self.old.given }
+        ensures one_less { IfSome result (λ given.
+            number_kept self.new + packets_in given ≡ number_kept self.old) }
         ensures nothing { IfNone result (owed self.old.state ≡ []) }
         ensures none { IfNone result (self.new ≡ self.old) }
     {

@@ -4,7 +4,7 @@ ghost use Rattle.difi_context.specs.Context.{IsInGrammar};
 ghost use Rattle.context_timeline.specs.Line.{line_of, with_context, timed_context, stamp_in, horizon_of};
 ghost use Rattle.vrt_fields.specs.declared.limits.Limits.{Limits};
 ghost use Rattle.sample_binder.specs.Events.{Event, ContextEvent, DataEvent, EndEvent};
-ghost use Rattle.sample_binder.specs.Outputs.{outputs};
+ghost use Rattle.sample_binder.specs.Outputs.{outputs, packets_in};
 ghost use Rattle.sample_binder.specs.Queue.{owed, StandsFor, IsShape};
 
 use crate::give::{give_packet, give_run};
@@ -104,6 +104,7 @@ impl Binding {
         ensures given { IfSome result (λ given. owed self.old ≡ given ∷ owed self.new) }
         ensures none { IfNone result (owed self.old ≡ []) }
         ensures same { IfNone result (self.new ≡ self.old) }
+        ensures kept { IfSome result (λ given. length self.new.queue + packets_in given ≡ length self.old.queue) }
         ensures line { self.new.line ≡ self.old.line }
         ensures limit { self.new.pending ≡ self.old.pending }
         ensures ended { self.new.ended ≡ self.old.ended }

@@ -1,10 +1,7 @@
 ghost use Rattle.std.specs.Prelude.{◌≡◌, ◌<◌, ◌≤◌, ◌^◌, ℕ};
 ghost use Rattle.vrt_time.specs.Time.{moment_of, capture_at};
 
-use vrt_time::{Moment, Stamp, capture};
-
-/// The picoseconds of a second, times the units of a rate in one hertz.
-const RAW_SECOND: u128 = 1_000_000_000_000 << 20;
+use vrt_time::{Moment, Stamp, capture, captured_before};
 
 // When a sample was captured.
 pub(crate) fn captured(stamp: Stamp, sample: u32, rate: u64) -> Moment
@@ -15,20 +12,13 @@ pub(crate) fn captured(stamp: Stamp, sample: u32, rate: u64) -> Moment
     capture(stamp, sample, rate as i64)
 }
 
-// How many of so many samples were captured before a stamp, which is after the first of them.
+// How many of so many samples were captured before a stamp.
 pub(crate) fn samples_before(stamp: Stamp, rate: u64, number: u32, until: Stamp) -> u32
     requires least { 2 ^ 20 ≤ rate }
     requires most { rate < 2 ^ 63 }
-    requires some { 0 < number }
-    requires later { moment_of stamp < moment_of until }
     ensures within { result ≤ number }
     ensures before { (m : ℕ) → m < result → capture_at stamp m rate < moment_of until }
     ensures behind { (m : ℕ) → result ≤ m → m < number → moment_of until ≤ capture_at stamp m rate }
 {
-    let passed = until.moment().picos();
-    if captured(stamp, number - 1, rate).picos() < passed {
-        return number;
-    }
-    let after = passed - stamp.moment().picos();
-    ((after * u128::from(rate) + RAW_SECOND - 1) / RAW_SECOND) as u32
+    captured_before(stamp, rate as i64, number, until.moment())
 }

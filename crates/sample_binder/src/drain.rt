@@ -26,6 +26,7 @@ fn drain_context(contexts: &mut Window<ContextRec>, binding: &mut Binding) -> bo
         → Follows limits contexts.new packets binding.new true calls taken }
     ensures size { contexts.new.size ≡ contexts.old.size }
     ensures pending { binding.new.pending ≡ binding.old.pending }
+    ensures queue { binding.new.queue ≡ binding.old.queue }
     ensures running { binding.new.ended ≡ false }
     ensures fewer { result ≡ true → length contexts.new.held + 1 ≡ length contexts.old.held }
     ensures none { result ≡ false → contexts.new.held ≡ [] }
@@ -54,6 +55,8 @@ fn drain_data(packets: &mut Window<PacketBuf>, binding: &mut Binding) -> bool
     ensures size { packets.new.size ≡ packets.old.size }
     ensures pending { binding.new.pending ≡ binding.old.pending }
     ensures line { binding.new.line ≡ binding.old.line }
+    ensures kept { length packets.new.held + length binding.new.queue
+        ≡ length packets.old.held + length binding.old.queue }
     ensures running { binding.new.ended ≡ false }
     ensures fewer { result ≡ true → length packets.new.held + 1 ≡ length packets.old.held }
     ensures none { result ≡ false → packets.new.held ≡ [] }
@@ -137,6 +140,8 @@ pub(crate) fn go_on(
     ensures context_size { contexts.new.size ≡ contexts.old.size }
     ensures data_size { packets.new.size ≡ packets.old.size }
     ensures pending { binding.new.pending ≡ binding.old.pending }
+    ensures kept { length packets.new.held + length binding.new.queue
+        ≡ length packets.old.held + length binding.old.queue }
     ensures running { told ≡ false → binding.new.ended ≡ binding.old.ended }
     ensures at_rest { told ≡ true → owed binding.new ≡ [] → binding.new.ended ≡ true }
 {

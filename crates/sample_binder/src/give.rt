@@ -1,7 +1,7 @@
-ghost use Rattle.std.specs.Prelude.{◌≡◌, ◌∷◌, None, IfSome, IfNone};
+ghost use Rattle.std.specs.Prelude.{◌≡◌, ◌+◌, ◌∷◌, None, length, IfSome, IfNone};
 ghost use Rattle.std.specs.VecDeque.{deque_capacity};
 ghost use Rattle.sample_binder.specs.Left.{runs_left_of, IsLeaving};
-ghost use Rattle.sample_binder.specs.Outputs.{open_reason};
+ghost use Rattle.sample_binder.specs.Outputs.{open_reason, packets_in};
 ghost use Rattle.sample_binder.specs.Queue.{AreSound, AreShapes, first_decided};
 ghost use Rattle.sample_binder.specs.Steps.{GivesPacket};
 
@@ -48,6 +48,7 @@ pub(crate) fn give_packet(
     requires shapes { AreShapes queue.old.items }
     requires none { leaving.old ≡ None }
     ensures packet { IfSome result (λ given. GivesPacket pending timeline.now ended queue.old.items queue.new.items leaving.new given) }
+    ensures kept { IfSome result (λ given. length queue.new.items + packets_in given ≡ length queue.old.items) }
     ensures none { IfNone result (first_decided pending timeline.now ended queue.old.items ≡ None) }
     ensures same_queue { IfNone result (queue.new.items ≡ queue.old.items) }
     ensures same_leaving { IfNone result (leaving.new ≡ None) }

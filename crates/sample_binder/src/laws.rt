@@ -1,13 +1,16 @@
-ghost use Rattle.std.specs.Prelude.{◌≡◌, ℕ, ◌↔◌, List, ◌++◌, Some};
+ghost use Rattle.std.specs.Prelude.{◌≡◌, ℕ, ◌≤◌, ◌↔◌, List, [], ◌∷◌, ◌++◌, length, Some};
 ghost use Rattle.vrt_words.specs.Begins.{IsDatagram};
 ghost use Rattle.vrt_header.specs.Profile.{PacketProfile};
 ghost use Rattle.difi_data.specs.Data.{DataPacket, IsData};
 ghost use Rattle.sample_binder.specs.declared.label.Label.{Label};
 ghost use Rattle.vrt_fields.specs.declared.limits.Limits.{Limits};
 ghost use Rattle.sample_binder.specs.declared.out.Out.{Out};
+ghost use Rattle.sample_binder.specs.Binder.{Bound, StandsFor};
+ghost use Rattle.sample_binder.specs.Calls.{Call, outputs_of, given_by};
 ghost use Rattle.sample_binder.specs.Due.{due};
 ghost use Rattle.sample_binder.specs.Events.{Event};
 ghost use Rattle.sample_binder.specs.Outputs.{outputs};
+ghost use Rattle.sample_binder.specs.Parts.{AreCallsOf, AreWhole, AreParts, AnyPart};
 ghost use Rattle.sample_binder.specs.Runs.{cut};
 ghost use Rattle.sample_binder.specs.Readings.{IsDueEvent, AreStretches, IsRead};
 
@@ -32,4 +35,34 @@ pub fn stretches_are_the_longest()
 #[inline]
 pub fn data_packets_are_read()
     ensures { (profile : PacketProfile) (packet : DataPacket) (bytes : List ℕ) → IsDatagram (IsData profile) packet bytes → IsRead packet bytes }
+{}
+
+/// A law that a proof can cite. Where the packet of each call is one of its kind, the outputs are
+/// whole packets, and so is what each call adds. Each packet is one that was given; at most fifteen
+/// are said to be lost before it; its runs follow it, one at least; each can be written with its
+/// payload; and they tell no more samples than that has bytes.
+#[inline]
+pub fn outputs_are_whole_packets()
+    ensures all { (profile : PacketProfile) (limits : Limits) (calls : List Call)
+        → AreCallsOf profile calls → AreWhole calls (outputs_of limits calls) }
+    ensures added { (profile : PacketProfile) (limits : Limits) (calls : List Call) (call : Call)
+        → AreCallsOf profile (calls ++ call ∷ [])
+        → AreWhole (calls ++ call ∷ []) (given_by limits calls call) }
+{}
+
+/// A law that a proof can cite. Outputs append: those of calls are what each of them adds, one after
+/// another. And more events add whole packets, each with its runs.
+#[inline]
+pub fn outputs_append()
+    ensures added { (limits : Limits) (calls : List Call) (call : Call)
+        → outputs_of limits (calls ++ call ∷ []) ≡ outputs_of limits calls ++ given_by limits calls call }
+    ensures whole { (limits : Limits) (events later : List Event)
+        → (more : List Out) × (outputs limits (events ++ later) ≡ outputs limits events ++ more) × AreParts AnyPart more }
+{}
+
+/// A law that a proof can cite. No more outputs were taken than there are.
+#[inline]
+pub fn taken_are_outputs()
+    ensures { (bound : Bound) (calls : List Call) (taken : ℕ) → StandsFor bound calls taken
+        → taken ≤ length (outputs_of bound.limits calls) }
 {}

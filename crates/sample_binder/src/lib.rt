@@ -8,6 +8,8 @@ mod clock;
 mod cut;
 mod decide;
 mod drain;
+#[cfg(test)]
+mod edges;
 mod front;
 mod give;
 #[cfg(test)]
@@ -34,7 +36,10 @@ mod tests;
 mod turned;
 
 pub use crate::binder::Binder;
-pub use crate::laws::{data_packets_are_read, due_events_are_the_first, stretches_are_the_longest};
+pub use crate::laws::{
+    data_packets_are_read, due_events_are_the_first, outputs_append, outputs_are_whole_packets,
+    stretches_are_the_longest, taken_are_outputs,
+};
 pub use crate::out::Out;
 pub use crate::reason::Reason;
 pub use crate::run::Run;

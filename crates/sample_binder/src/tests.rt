@@ -7,7 +7,7 @@ use crate::{Limits, Reason};
 use std::alloc::Global;
 
 /// Windows of size 0: four contexts are kept, and eight packets may wait.
-const LIMITS: Limits = Limits {
+pub(crate) const LIMITS: Limits = Limits {
     data_window: 0,
     context_window: 0,
     kept: 4,
@@ -57,26 +57,26 @@ const OTHER_GAIN: Tuning = Tuning {
 };
 
 /// 2 Hz and 4 Hz, and 16 bits an item.
-const SLOW: Tuning = Tuning {
+pub(crate) const SLOW: Tuning = Tuning {
     gain: 0x500,
     rate: (0, 0x0020_0000),
     format: 0xA000_03CF,
 };
 
-const SLOW_OTHER_GAIN: Tuning = Tuning {
+pub(crate) const SLOW_OTHER_GAIN: Tuning = Tuning {
     gain: 0x600,
     rate: (0, 0x0020_0000),
     format: 0xA000_03CF,
 };
 
-const FASTER: Tuning = Tuning {
+pub(crate) const FASTER: Tuning = Tuning {
     gain: 0x500,
     rate: (0, 0x0040_0000),
     format: 0xA000_03CF,
 };
 
 /// 2 Hz, and 4 bits an item.
-const NARROW: Tuning = Tuning {
+pub(crate) const NARROW: Tuning = Tuning {
     gain: 0x500,
     rate: (0, 0x0020_0000),
     format: 0xA000_00C3,
@@ -96,19 +96,19 @@ const LONG_OTHER_GAIN: Tuning = Tuning {
 };
 
 /// One, two and four samples of two items of 16 bits.
-const ONE: Payload = Payload {
+pub(crate) const ONE: Payload = Payload {
     words: 1,
     front: [0x0001_0002, 0, 0, 0],
     pad: 0,
 };
 
-const TWO: Payload = Payload {
+pub(crate) const TWO: Payload = Payload {
     words: 2,
     front: [0x0001_0002, 0x0003_0004, 0, 0],
     pad: 0,
 };
 
-const FOUR: Payload = Payload {
+pub(crate) const FOUR: Payload = Payload {
     words: 4,
     front: [0x0001_0002, 0x0003_0004, 0x0005_0006, 0x0007_0008],
     pad: 0,

@@ -1,2 +1,3 @@
 pub mod PrologueLaws
 pub mod SpellingLaws
+pub mod KindLaws

@@ -50,3 +50,8 @@ pub record IsPrologue (profile : PacketProfile) (prologue : Prologue) (words : L
   pub information : prologue.information ≡ bits (slice_index words 3) 16 16
   pub packet : prologue.packet ≡ bits (slice_index words 3) 0 16
   pub stamp : IsStamped prologue.header.timed prologue.stamp words
+
+-- they are a prologue of this kind
+pub record IsPrologueOf (profile : PacketProfile) (wanted : Kind) (p : Prologue) (words : List ℕ) : Type 0 where
+  pub prologue : IsPrologue profile p words
+  pub kind : p.header.kind ≡ wanted

@@ -1,8 +1,8 @@
--- The words of a stamp.
-use Rattle.std.specs.Prelude.{ℕ, ◌/◌, ◌%◌, ◌^◌, List, [], ◌∷◌, Option, Some, None}
-use Rattle.vrt_time.specs.Time.{TimeStamp}
+-- The words of a stamp that may be absent.
+use Rattle.std.specs.Prelude.{ℕ, List, [], ◌∷◌, Option, Some, None}
+use Rattle.vrt_time.specs.Time.{TimeStamp, parts_of}
 
--- seconds, and the fraction in two words; zeros where there is no stamp
+-- zeros where there is no stamp
 abbrev pub stamp_words : Option TimeStamp → List ℕ
-stamp_words (Some stamp) = stamp.seconds ∷ stamp.picos / 2 ^ 32 ∷ stamp.picos % 2 ^ 32 ∷ []
+stamp_words (Some stamp) = parts_of stamp
 stamp_words None = 0 ∷ 0 ∷ 0 ∷ []

@@ -2,7 +2,10 @@
 //! profile of a record allows them (IEEE-ISTO Std 4900-2021, after ANSI/VITA 49.2-2017, section 5.1).
 #![tactic(auto)]
 
+#[cfg(test)]
+mod edges;
 mod header;
+mod of_kind;
 mod profile;
 mod prologue;
 mod round_trip;
@@ -11,6 +14,7 @@ mod spelling;
 mod tests;
 
 pub use crate::header::{Header, Kind, kind_of};
+pub use crate::of_kind::{kind_in, read_prologue_of};
 pub use crate::profile::Profile;
 pub use crate::prologue::{Prologue, read_prologue};
 pub use crate::round_trip::one_to_one;

@@ -48,15 +48,10 @@ fn header_word(profile: Profile, header: Header) -> u32
 fn words_of_stamp(stamp: Option<Stamp>) -> [u32; 3]
     ensures { result ≡ stamp_words stamp }
 {
-    let Some(stamp) = stamp else {
-        return [0; 3];
-    };
-    let picos = stamp.picos();
-    [
-        stamp.seconds(),
-        (picos >> 32) as u32,
-        (picos % (1 << 32)) as u32,
-    ]
+    match stamp {
+        Some(stamp) => stamp.parts(),
+        None => [0; 3],
+    }
 }
 
 // The words of a prologue, with zeros for the stamp where there is none.

@@ -1,5 +1,5 @@
 -- Stamps and moments, and the moment at which a sample was captured.
-use Rattle.std.specs.Prelude.{ℕ, ◌+◌, ◌*◌, ◌/◌, ◌^◌, ◌<◌}
+use Rattle.std.specs.Prelude.{ℕ, ◌+◌, ◌*◌, ◌/◌, ◌%◌, ◌^◌, ◌<◌, List, [], ◌∷◌}
 
 -- whole seconds, and picoseconds after them
 pub record TimeStamp : Type 0 where
@@ -14,9 +14,17 @@ pub record IsStamp (stamp : TimeStamp) : Type 0 where
 abbrev pub stamp_of : ℕ → ℕ → TimeStamp
 stamp_of seconds picos = record { seconds = seconds; picos = picos }
 
+-- a word holds so many different numbers, and counts so many of the word behind it
+abbrev pub word_base : ℕ
+word_base = 2 ^ 32
+
 -- the fraction in the two words of a packet, the high one first
 abbrev pub fraction_of : ℕ → ℕ → ℕ
-fraction_of high low = high * 2 ^ 32 + low
+fraction_of high low = high * word_base + low
+
+-- the three words of a stamp: its seconds, and the high and the low word of its fraction
+abbrev pub parts_of : TimeStamp → List ℕ
+parts_of stamp = stamp.seconds ∷ stamp.picos / word_base ∷ stamp.picos % word_base ∷ []
 
 -- the number of picoseconds since the epoch
 abbrev pub moment_of : TimeStamp → ℕ

@@ -10,6 +10,6 @@ mod stamp;
 mod tests;
 
 pub use crate::moment::Moment;
-pub use crate::order::stamps_compare_as_moments;
-pub use crate::sampling::capture;
+pub use crate::order::{moments_compare_as_numbers, stamps_compare_as_moments};
+pub use crate::sampling::{capture, captured_before};
 pub use crate::stamp::Stamp;

@@ -1,7 +1,8 @@
-ghost use Rattle.std.specs.Prelude.{◌≡◌, ◌↔◌, IsTrue};
+ghost use Rattle.std.specs.Prelude.{◌≡◌, ◌↔◌, ℕ, IsTrue};
 ghost use Rattle.std.specs.Ordering.{nat_cmp};
 ghost use Rattle.vrt_time.specs.Time.{TimeStamp, IsStamp, moment_of};
 
+use crate::moment::Moment;
 use crate::stamp::Stamp;
 
 /// A law that a proof can cite: stamps compare as their moments do, `==` says whether their moments
@@ -13,4 +14,12 @@ pub fn stamps_compare_as_moments()
     ensures equal { (a b : TimeStamp) → IsStamp a → IsStamp b
         → IsTrue (⟦<Stamp as PartialEq>⟧.eq a b) ↔ (moment_of a ≡ moment_of b) }
     ensures same { (a b : TimeStamp) → IsStamp a → IsStamp b → moment_of a ≡ moment_of b → a ≡ b }
+{}
+
+/// A law that a proof can cite: moments compare as their numbers of picoseconds do, and `==` says
+/// whether these are equal.
+#[inline]
+pub fn moments_compare_as_numbers()
+    ensures order { (a b : ℕ) → ⟦<Moment as Ord>⟧.cmp a b ≡ nat_cmp a b }
+    ensures equal { (a b : ℕ) → IsTrue (⟦<Moment as PartialEq>⟧.eq a b) ↔ (a ≡ b) }
 {}

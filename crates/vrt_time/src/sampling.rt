@@ -1,4 +1,4 @@
-ghost use Rattle.std.specs.Prelude.{◌≡◌, ◌^◌, pos, ◌≤ℤ◌, unsigned_abs};
+ghost use Rattle.std.specs.Prelude.{◌≡◌, ◌<◌, ◌≤◌, ◌^◌, ℕ, pos, ◌≤ℤ◌, unsigned_abs};
 ghost use Rattle.vrt_time.specs.Time.{capture_at};
 
 use crate::moment::Moment;
@@ -20,4 +20,23 @@ pub fn capture(stamp: Stamp, sample: u32, rate: i64) -> Moment
 {
     let after = u128::from(sample) * RAW_PERIOD / u128::from(rate.unsigned_abs());
     Moment::of(stamp.moment().picos() + after)
+}
+
+/// How many of the samples 0 to `number - 1` of a packet were captured before the moment `until`.
+///
+/// `rate` is the raw sample rate, in units of 2^-20 Hz, and at least 1 Hz.
+pub fn captured_before(stamp: Stamp, rate: i64, number: u32, until: Moment) -> u32
+    requires { pos (2 ^ 20) ≤ℤ rate }
+    ensures within { result ≤ number }
+    ensures before { (m : ℕ) → m < result → capture_at stamp m (unsigned_abs rate) < until }
+    ensures behind { (m : ℕ) → result ≤ m → m < number → until ≤ capture_at stamp m (unsigned_abs rate) }
+{
+    if number == 0 || until <= stamp.moment() {
+        return 0;
+    }
+    if capture(stamp, number - 1, rate) < until {
+        return number;
+    }
+    let after = until.picos() - stamp.moment().picos();
+    ((after * u128::from(rate.unsigned_abs()) + RAW_PERIOD - 1) / RAW_PERIOD) as u32
 }

@@ -1,5 +1,5 @@
-ghost use Rattle.std.specs.Prelude.{◌≡◌, ◌+◌, ◌*◌, ◌<◌, ◌^◌, ◌↔◌, IsSome, IfSome};
-ghost use Rattle.vrt_time.specs.Time.{stamp_of, fraction_of, moment_of, IsStamp};
+ghost use Rattle.std.specs.Prelude.{◌≡◌, ◌<◌, ◌^◌, ◌↔◌, slice_index, IsSome, IfSome};
+ghost use Rattle.vrt_time.specs.Time.{stamp_of, fraction_of, parts_of, moment_of, IsStamp};
 
 use crate::moment::Moment;
 use std::marker::Model;
@@ -52,6 +52,21 @@ impl Stamp {
         } else {
             None
         }
+    }
+
+    /// The three words in which packets carry it: the seconds, and the high and the low word of the
+    /// fraction. `of_parts` makes the stamp of them again.
+    #[inline]
+    pub fn parts(&self) -> [u32; 3]
+        ensures words { result ≡ parts_of self.now }
+        ensures again { stamp_of (slice_index result 0) (fraction_of (slice_index result 1) (slice_index result 2))
+            ≡ self.now }
+    {
+        [
+            self.seconds,
+            (self.picos >> 32) as u32,
+            (self.picos % (1 << 32)) as u32,
+        ]
     }
 
     /// Whole seconds since the epoch.

@@ -1,5 +1,5 @@
 -- Laws of the refused place, for packets of any kind.
-use Rattle.std.proofs.Common.{◌≡◌, ℕ, suc, ◌+◌, ◌-◌, ◌<◌, ◌≤◌, List, ◌++◌, length, take, drop, get_or, inl, inr, sym, ap, ◌∙◌, subst, append_assoc, take-append-drop, length-append, length-drop, arith}
+use Rattle.std.proofs.Common.{◌≡◌, ℕ, suc, refl, [], ◌∷◌, ◌+◌, ◌-◌, ◌<◌, ◌≤◌, List, ◌++◌, length, take, drop, get_or, inl, inr, sym, ap, ◌∙◌, subst, append_assoc, take-append-drop, length-append, length-drop, arith}
 use Rattle.std.proofs.lemmas.Bool.{cases_order}
 use Rattle.std.proofs.lemmas.List.{length-take-le, take-take, get_or_append_left, get_or-append_right, get_or-take, get_or-drop}
 use Rattle.vrt_words.specs.Words.{AreWords}
@@ -64,3 +64,25 @@ Begins-below IsPacket words u w fits h b =
     let same : take (suc w) words ++ b.1.0 ≡ take (suc u) words ++ (mid ++ b.1.0) =
     ap (λ xs. xs ++ b.1.0) (sym front) ∙ append_assoc (take (suc u) words) mid b.1.0 in
     (b.0, (mid ++ b.1.0, (AreWords-append mid b.1.0 (AreWords-drop (suc u) (take (suc w) words) (AreWords-take (suc w) words fits)) b.1.1.0, subst (IsPacket b.0) same b.1.1.1)))
+
+-- the words behind the first m, and those behind a front of m words
+pub behind_front : (m k : ℕ) (words : List ℕ) (i : ℕ) → i < k → get_or (take k (drop m words)) i 0 ≡ get_or words (m + i) 0
+behind_front m k words i h = get_or-take k (drop m words) i 0 h ∙ get_or-drop m words i 0
+
+pub length-behind : (m k : ℕ) (words : List ℕ) → m + k ≤ length words → length (take k (drop m words)) ≡ k
+length-behind m k words h = length-take-le k (drop m words) (omega (arith, length-drop m words))
+
+pub row_behind : (front words rest : List ℕ) (m i : ℕ) → length front ≡ m → i < length words → get_or (front ++ (words ++ rest)) (m + i) 0 ≡ get_or words i 0
+row_behind front words rest m i long h =
+    let back : (m + i) - m ≡ i = omega arith in
+    get_or-append_right front (words ++ rest) m (m + i) 0 long (omega arith)
+    ∙ ap (λ n. get_or (words ++ rest) n 0) back ∙ get_or_append_left words rest 0 i h
+
+-- a word more
+pub one_more_before : (words : List ℕ) (x i : ℕ) → i < length words → get_or (words ++ x ∷ []) i 0 ≡ get_or words i 0
+one_more_before words x i h = get_or_append_left words (x ∷ []) 0 i h
+
+pub one_more_last : (words : List ℕ) (x i : ℕ) → i ≡ length words → get_or (words ++ x ∷ []) i 0 ≡ x
+one_more_last words x i e =
+    let back : i - length words ≡ 0 = omega arith in
+    get_or-append_right words (x ∷ []) (length words) i 0 refl (omega arith) ∙ ap (λ n. get_or (x ∷ []) n 0) back

@@ -3,3 +3,4 @@ pub mod BeginLaws
 pub mod WordLemmas
 pub mod BitLemmas
 pub mod RowLemmas
+pub mod GrowingLaws

@@ -2,13 +2,12 @@
 use Rattle.std.proofs.Common.{◌≡◌, ℕ, ◌+◌, ◌*◌, ◌<◌, ◌≤◌, List, ◌++◌, length, take, drop, get_or, refl, sym, ap, ◌∙◌, length-take, length-drop, arith}
 use Rattle.std.proofs.lemmas.List.{length-take-le, drop-drop, drop_at, get_or-take, get_or-drop}
 use Rattle.std.proofs.lemmas.Grind.{same_number_lists}
-use Rattle.std.proofs.lemmas.Option.{get_or_from_slice_get}
 use Rattle.std.specs.List.{flat_map}
 use Rattle.byteorder.specs.Endian.{big_bytes, big_number, IsRead}
 use borrow.Rule.Slice.PartMut.{put_mid}
 use Rattle.vrt_words.specs.Words.{words_of, AreWords}
 use Rattle.vrt_words.proofs.WordLaws.{length-words_of, words_of-append, words_of-take, words_of-drop, words_of-spelled, length-spelled}
-use Rattle.vrt_words.proofs.WordLemmas.{word_at-there}
+use Rattle.vrt_words.proofs.WordLemmas.{word_in-there}
 
 -- the words of bytes among which a row of words was written
 pub words_of-row : (bytes ws : List ℕ) (i k : ℕ) → AreWords ws → 4 * (i + length ws) ≤ length bytes → k ≡ 4 * length ws
@@ -50,8 +49,8 @@ read-row bytes got i k h e read =
     let there = length-words_of bytes in
     same_number_lists got (take (length got) (drop i (words_of bytes)))
     (omega (arith, length-take (length got) (drop i (words_of bytes)), length-drop i (words_of bytes), there.1))
-    (λ j lt. read j lt ∙ row_number bytes i j k (omega arith) ∙ sym (get_or-take (length got) (drop i (words_of bytes)) j 0 lt ∙ get_or-drop i (words_of bytes) j 0
-    ∙ get_or_from_slice_get (words_of bytes) (i + j) _ 0 (word_at-there bytes (i + j) (omega arith))))
+    (λ j lt. read j lt ∙ row_number bytes i j k (omega arith) ∙ word_in-there bytes (i + j) (omega arith)
+    ∙ sym (get_or-take (length got) (drop i (words_of bytes)) j 0 lt ∙ get_or-drop i (words_of bytes) j 0))
 
 -- what the slice that was written leaves of the bytes
 pub row-is : (bytes new ws : List ℕ) (i k : ℕ) → new ≡ flat_map (big_bytes 4) ws → put_mid (4 * i) k bytes new ≡ take (4 * i) bytes ++ (flat_map (big_bytes 4) ws ++ drop k (drop (4 * i) bytes))

@@ -114,6 +114,11 @@ AreBytes-take (suc n) [] p i = omega arith
 AreBytes-take (suc n) (x ∷ xs) p zero = p 0
 AreBytes-take (suc n) (x ∷ xs) p (suc i) = AreBytes-take n xs (λ k. p (suc k)) i
 
+pub AreBytes-drop : (n : ℕ) (xs : List ℕ) → AreBytes xs → AreBytes (drop n xs)
+AreBytes-drop zero xs p = p
+AreBytes-drop (suc n) [] p = λ i. omega arith
+AreBytes-drop (suc n) (x ∷ xs) p = AreBytes-drop n xs (λ k. p (suc k))
+
 -- what is the same from one place on is the same from each later one on
 pub same_later : (i k : ℕ) (xs ys : List ℕ) → i ≤ k → drop i xs ≡ drop i ys → drop k xs ≡ drop k ys
 same_later i k xs ys h e =

@@ -9,9 +9,14 @@ four_more : (j : ℕ) → 4 * suc j ≡ suc (suc (suc (suc (4 * j))))
 four_more j = omega arith
 
 -- a word that is there is the number in its four bytes
-pub word_at-there : (bytes : List ℕ) (i : ℕ) → 4 * i + 4 ≤ length bytes → slice_get (words_of bytes) i ≡ Some (big_number 4 (drop (4 * i) bytes))
-word_at-there (a ∷ b ∷ c ∷ d ∷ bytes) zero h = ap Some (omega arith)
-word_at-there (a ∷ b ∷ c ∷ d ∷ bytes) (suc i) h = rw (four_more i) (word_at-there bytes i (omega arith))
+pub word_in-there : (bytes : List ℕ) (i : ℕ) → 4 * i + 4 ≤ length bytes → big_number 4 (drop (4 * i) bytes) ≡ get_or (words_of bytes) i 0
+word_in-there (a ∷ b ∷ c ∷ d ∷ bytes) zero h = omega arith
+word_in-there (a ∷ b ∷ c ∷ d ∷ bytes) (suc i) h = rw (four_more i) (word_in-there bytes i (omega arith))
+word_in-there bytes i h = absurd (omega arith)
+
+pub word_at-there : (bytes : List ℕ) (i : ℕ) → 4 * i + 4 ≤ length bytes → Some (get_or (words_of bytes) i 0) ≡ slice_get (words_of bytes) i
+word_at-there (a ∷ b ∷ c ∷ d ∷ bytes) zero h = refl
+word_at-there (a ∷ b ∷ c ∷ d ∷ bytes) (suc i) h = word_at-there bytes i (omega arith)
 word_at-there bytes i h = absurd (omega arith)
 
 -- there is no word where fewer bytes are

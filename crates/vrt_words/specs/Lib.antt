@@ -1,3 +1,5 @@
 pub mod Words
 pub mod Begins
 pub mod Buffer
+pub mod Growing
+pub mod Sizes

@@ -3,6 +3,7 @@
 #![tactic(auto)]
 
 mod bits;
+mod length;
 mod packet_buf;
 mod place;
 #[cfg(test)]
@@ -10,6 +11,7 @@ mod tests;
 mod words;
 
 pub use crate::bits::{bits_of, with_bits};
+pub use crate::length::check_size;
 pub use crate::packet_buf::PacketBuf;
 pub use crate::place::{NoMemory, Place};
-pub use crate::words::{put_word, put_words, read_words, word_at, word_or_place};
+pub use crate::words::{put_word, put_words, read_words, word_at, word_in, word_or_place};

@@ -7,6 +7,7 @@ fn a_word_has_its_first_byte_highest(rt: HostRuntime) {
     assert_eq!(rt; word_at(&bytes, 0), Some(0x4960_001B));
     assert_eq!(rt; word_at(&bytes, 1), Some(1));
     assert_eq!(rt; word_at(&bytes, 2), None);
+    assert_eq!(rt; word_in(&bytes, 1), 1);
     put_word(&mut bytes, 1, 0x6A_621E);
     assert_eq!(rt; bytes, [0x49, 0x60, 0, 0x1B, 0, 0x6A, 0x62, 0x1E, 0]);
 }
@@ -40,4 +41,21 @@ fn a_buffer_keeps_its_room(rt: HostRuntime) -> Result<(), Fail> {
     assert_eq!(rt; buf.bytes(), [7; 32].as_slice());
     assert_eq!(rt; buf.room(), 172);
     Ok(())
+}
+
+#[test]
+fn a_length_is_that_of_the_size_or_refused(rt: HostRuntime) {
+    let bytes = [0; 60];
+    assert!(rt; check_size(&bytes, 15) == Ok(()));
+    assert!(rt; check_size(&bytes, 16) == Err(Place { word: 15 }));
+    assert!(rt; check_size(&bytes, 14) == Err(Place { word: 14 }));
+    assert!(rt; check_size(&bytes[..59], 15) == Err(Place { word: 14 }));
+}
+
+#[test]
+fn a_missing_word_is_refused_at_the_number_of_words(rt: HostRuntime) {
+    let bytes = [0, 0, 0, 7, 1, 2, 3];
+    assert_eq!(rt; word_or_place(&bytes, 0), Ok(7));
+    assert_eq!(rt; word_or_place(&bytes, 1), Err(Place { word: 1 }));
+    assert_eq!(rt; word_or_place(&bytes, 9), Err(Place { word: 1 }));
 }

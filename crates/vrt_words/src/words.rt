@@ -15,7 +15,16 @@ pub fn word_at(bytes: &[u8], index: usize) -> Option<u32>
     if index >= bytes.len() / 4 {
         return None;
     }
-    Some(BigEndian::read_u32(&bytes[4 * index..]))
+    Some(word_in(bytes, index))
+}
+
+/// The word at `index` of a datagram that has one there.
+#[inline]
+pub fn word_in(bytes: &[u8], index: usize) -> u32
+    requires { 4 * index + 4 ≤ length bytes.now }
+    ensures { result ≡ slice_index (words_of bytes.now) index }
+{
+    BigEndian::read_u32(&bytes[4 * index..])
 }
 
 /// The word at `index`, or the place at which the datagram is refused for want of it: the number of

@@ -1,9 +1,10 @@
 //! Faults of the source and the sink at each call.
 
-use crate::records::{BASE, datagram, header, push_frame, run_with};
+use crate::records::{header, run_with};
 use difi_cmd::Status;
 use std::alloc::Global;
 use std::test::Fail;
+use test_records::{BASE, datagram, push_frame};
 
 const TEXT: &str = "frame 1 ok context stream 00000001\nframes 1 ok 1 refused 0\n";
 

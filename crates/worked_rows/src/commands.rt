@@ -1,10 +1,11 @@
 //! What `check` and `show` tell of commands, cancellations and acknowledgements.
 
-use crate::records::{datagram, header, push_frame, run, show};
+use crate::records::{header, run, show};
 use difi_cmd::Status;
 use std::alloc::Global;
 use std::test::Fail;
 use std::thread::Threads;
+use test_records::{datagram, push_frame};
 
 // A command that sets the gain and the sample rate, at once.
 const CONTROL: [u32; 10] = [

@@ -1,12 +1,11 @@
 //! Records that are none, and the offset at which each is told to be wrong.
 
-use crate::records::{
-    BASE, datagram, header, push_frame, push_words, run, run_line, second_header,
-};
+use crate::records::{header, run, run_line, second_header};
 use difi_cmd::Status;
 use std::alloc::Global;
 use std::test::Fail;
 use std::thread::Threads;
+use test_records::{BASE, datagram, push_frame, push_words};
 
 const LINE: &str = "frame 1 ok context stream 00000001\n";
 

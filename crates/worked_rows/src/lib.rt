@@ -8,6 +8,8 @@ mod commands;
 #[cfg(test)]
 mod faults;
 #[cfg(test)]
+mod order;
+#[cfg(test)]
 mod packets;
 #[cfg(test)]
 mod places;

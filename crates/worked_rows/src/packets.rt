@@ -1,8 +1,8 @@
 //! Packets that are decoded and encoded again.
 
-use crate::records::push_words;
 use difi_packet::{Packet, decode, size_of};
 use std::test::Fail;
+use test_records::push_words;
 use vrt_header::Profile;
 
 #[test]

@@ -1,10 +1,11 @@
 //! Where datagrams are refused.
 
-use crate::records::{BASE, datagram, header, push_frame, run};
+use crate::records::{header, run};
 use difi_cmd::Status;
 use std::alloc::Global;
 use std::test::Fail;
 use std::thread::Threads;
+use test_records::{BASE, datagram, push_frame};
 
 // What `check` writes of a record of one frame with the base context, of which some words are
 // others.

@@ -1,9 +1,10 @@
 //! Whole records, however they are cut.
 
-use crate::records::{BASE, datagram, header, push_frame, run, run_with};
+use crate::records::{header, run, run_with};
 use difi_cmd::Status;
 use std::alloc::Global;
 use std::test::Fail;
+use test_records::{BASE, datagram, push_frame, push_words};
 
 const TWO: &str =
     "frame 1 ok context stream 00000001\nframe 2 refused at word 26\nframes 2 ok 1 refused 1\n";
@@ -48,5 +49,29 @@ fn a_datagram_of_more_words_than_allowed_is_too_large(rt: HostRuntime) -> Result
     assert!(rt; outcome.status == Status::Done);
     let text = "frame 1 too large\nframes 1 ok 0 refused 1\n";
     assert_eq!(rt; outcome.text.as_slice(), text.as_bytes());
+    Ok(())
+}
+
+#[test]
+fn a_datagram_of_as_many_words_as_allowed_is_judged(rt: HostRuntime) -> Result<(), Fail> {
+    // A data packet of 400 words, and one of 401.
+    for (size, text) in [
+        (
+            400,
+            "frame 1 ok data stream 00000001\nframes 1 ok 1 refused 0\n",
+        ),
+        (401, "frame 1 too large\nframes 1 ok 0 refused 1\n"),
+    ] {
+        let mut bytes = datagram(rt.alloc(), &[0x1860_0000 | size, 1, 0x006A_621E, 0])?;
+        push_words(&mut bytes, &[0x6553_F100, 0, 0])?;
+        for _ in 7..size {
+            push_words(&mut bytes, &[0x0001_0002])?;
+        }
+        let mut record = header(rt.alloc())?;
+        push_frame(&mut record, bytes.as_slice())?;
+        let outcome = run(&rt, rt.alloc(), record.as_slice())?;
+        assert!(rt; outcome.status == Status::Done);
+        assert_eq!(rt; outcome.text.as_slice(), text.as_bytes());
+    }
     Ok(())
 }

@@ -1,9 +1,10 @@
 //! What `show` tells of packets.
 
-use crate::records::{BASE, datagram, header, push_frame, run_line, show};
+use crate::records::{header, run_line, show};
 use difi_cmd::Status;
 use std::alloc::Global;
 use std::test::Fail;
+use test_records::{BASE, datagram, push_frame};
 
 const CONTEXT: &str = "frame 1 ok context stream 00000001
   time 1700000000 s 000000000000 ps

@@ -4,7 +4,7 @@ use Rattle.replay_form.specs.Reading.{Reading}
 use Rattle.difi_io.proofs.FaultLaws.{Rose-later}
 use Rattle.difi_cmd.specs.declared.report.Report.{Report}
 use Rattle.difi_cmd.specs.Steps.{IsTold, IsAlong}
-use Rattle.difi_cmd.proofs.Outcomes.{begins, read_stopped, stopped, too_many, at_next, ended}
+use Rattle.difi_cmd.proofs.Outcomes.{begins, writes_kept, read_stopped, stopped, too_many, at_next, ended}
 use Rattle.difi_cmd.proofs.Feeding.{place_of}
 use Rattle.difi_cmd.proofs.list.read_record.Goals as goal
 
@@ -17,13 +17,19 @@ loop-count-init g c = record {
 pub returns-in-Err : goal.returns-in-Err
 returns-in-Err g c =
     let inv = c.loop-count.invariant in
-    (Rose-later _ _ _ (omega (arith, inv.source_kept)) (c.in-Err.ensures.cause.failed refl), read_stopped c.args.line c.loop-count.reader c.loop-count.report c.loop-count.left _ _ _ _ _ _ _ inv.at c.in-Err.ensures.err)
+    (
+      Rose-later _ _ _ (omega (arith, inv.source_kept)) (c.in-Err.ensures.cause.failed refl),
+      (
+        writes_kept c.args.line c.loop-count.reader c.loop-count.report c.loop-count.left _ _ _ _ _ _ inv.at,
+        read_stopped c.args.line c.loop-count.reader c.loop-count.report c.loop-count.left _ _ _ _ _ _ _ inv.at c.in-Err.ensures.err,
+      ),
+    )
 
 pub returns-then-count-eq0 : goal.returns-then-count-eq0
 returns-then-count-eq0 g c =
     let inv = c.loop-count.invariant in
     let a = inv.at.along in
-    ended c.args.line c.loop-count.reader c.loop-count.report c.loop-count.left _ _ _ _ _ _ _ _ _ inv.at c.read_piece.new.piece c.in-Ok.count c.in-Ok.ensures.bytes c.end.result _ _
+    ended c.args.line c.loop-count.reader c.loop-count.report c.loop-count.left _ _ _ _ _ _ _ _ _ inv.at c.read_piece.new.piece c.in-Ok.count c.in-Ok.ensures.bytes c.in-Ok.ensures.most c.end.result _ _
     c.if-count-eq0.true (c.in-Ok.ensures.end c.if-count-eq0.true) (c.end.ensures _ _ inv.at.taken a.0 a.1.0 a.1.1.0 a.1.1.1)
 
 -- the bytes that were given on are the first ones of those read
@@ -35,7 +41,7 @@ returns-in-Err-take g c =
     let inv = c.loop-count.invariant in
     let a = inv.at.along in
     let told = c.in-Err-take.ensures.told _ _ inv.at.taken a.0 a.1.0 a.1.1.0 a.1.1.1 in
-    stopped c.args.line c.loop-count.reader c.loop-count.report c.loop-count.left _ _ _ _ _ _ _ _ _ inv.at c.read_piece.new.piece c.in-Ok.count c.in-Ok.ensures.bytes c.in-Err-take.status _ _
+    stopped c.args.line c.loop-count.reader c.loop-count.report c.loop-count.left _ _ _ _ _ _ _ _ _ inv.at c.read_piece.new.piece c.in-Ok.count c.in-Ok.ensures.bytes c.in-Ok.ensures.most c.in-Err-take.status _ _
     c.take.new.reader c.take.new.report c.in-Err-take.ensures.listing
     (subst (λ (l : List ℕ). IsTold (Err c.in-Err-take.status) (g.K.Sink.held c.args.sink.now) (g.K.Sink.held c.take.new.sink) (g.K.Sink.faults c.args.sink.now) (g.K.Sink.faults c.take.new.sink)
     c.take.new.reader c.take.new.report (inv.at.taken ++ l))
@@ -51,7 +57,7 @@ returns-then-within-count g c =
     let inv = c.loop-count.invariant in
     let a = inv.at.along in
     let told = c.in_default.ensures.told _ _ inv.at.taken a.0 a.1.0 a.1.1.0 a.1.1.1 in
-    too_many c.args.line c.loop-count.reader c.loop-count.report c.loop-count.left _ _ _ _ _ _ _ _ _ inv.at c.read_piece.new.piece c.in-Ok.count c.in-Ok.ensures.bytes
+    too_many c.args.line c.loop-count.reader c.loop-count.report c.loop-count.left _ _ _ _ _ _ _ _ _ inv.at c.read_piece.new.piece c.in-Ok.count c.in-Ok.ensures.bytes c.in-Ok.ensures.most
     c.take.new.reader c.take.new.report c.in_default.ensures.listing c.in_default.ensures.stands c.in_default.ensures.sound c.in_default.ensures.empty
     (omega (arith, c.first_of-within.ensures, c.if-within-count.true)) c.in-Ok.ensures.within
     (along_front _ _ _ _ _ _ inv.at.taken c.read_piece.new.piece c.first_of-within.result c.in-Ok.count c.loop-count.left c.first_of-within.ensures told)
@@ -63,7 +69,7 @@ loop-count-preserved g c =
     let told = c.in_default.ensures.told _ _ inv.at.taken a.0 a.1.0 a.1.1.0 a.1.1.1 in
     let same = front c.read_piece.new.piece c.first_of-within.result c.in-Ok.count c.loop-count.left c.first_of-within.ensures in
     record {
-      at = at_next c.args.line c.loop-count.reader c.loop-count.report c.loop-count.left _ _ _ _ _ _ _ _ _ inv.at c.read_piece.new.piece c.in-Ok.count c.in-Ok.ensures.bytes
+      at = at_next c.args.line c.loop-count.reader c.loop-count.report c.loop-count.left _ _ _ _ _ _ _ _ _ inv.at c.read_piece.new.piece c.in-Ok.count c.in-Ok.ensures.bytes c.in-Ok.ensures.most
           c.take.new.reader c.take.new.report c.in_default.ensures.listing c.in_default.ensures.stands c.in_default.ensures.counted c.in_default.ensures.sound c.in_default.ensures.empty
           (omega (arith, c.first_of-within.ensures, c.if-within-count.false)) c.in-Ok.ensures.within
           (c.in_default.ensures.place ∙ ap (λ (l : List ℕ). place_of c.loop-count.reader + length l) same)

@@ -8,7 +8,7 @@ use Rattle.difi_context.proofs.encoding.encode.Goals as goal
 pub write_prologue-requires-clause-spelled : goal.write_prologue-requires-clause-spelled
 write_prologue-requires-clause-spelled c =
     let a = c.requires.allowed in
-    (take 7 a.words, AreWords-take 7 a.words a.are_words, a.packet.prologue)
+    (take 7 a.words, AreWords-take 7 a.words a.are_words, a.packet.prologue.prologue)
 
 pub returns-clause-again : goal.returns-clause-again
 returns-clause-again c = λ bytes fits d.

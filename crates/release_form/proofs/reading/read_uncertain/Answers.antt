@@ -16,4 +16,4 @@ returns-clause-found c =
     let fits = c.if-not-is_of_samples.ensures.0 refl in
     reads_uncertain _ _ _ _ _ _ _ _ _ c.requires.kind c.requires.length c.in_ok-stream.ensures.found
     (reason_at _ _ _ _ _ c.word_in.ensures c.word_in-2.ensures c.in_ok-reason.ensures.found) c.in_ok-stamp.ensures.stamp c.in_ok-first.ensures.found
-    (c.of.ensures ∙ c.quadruple_in.ensures) fits.0 fits.1
+    (c.of-2.ensures ∙ c.quadruple_in.ensures) fits.0 fits.1

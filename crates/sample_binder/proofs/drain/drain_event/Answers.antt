@@ -1,4 +1,4 @@
-use Rattle.std.proofs.Common.{◌≡◌, true, sym, ap, ◌∙◌, subst}
+use Rattle.std.proofs.Common.{◌≡◌, true, length, sym, ap, ◌∙◌, subst, arith}
 use Rattle.context_timeline.specs.Line.{Line}
 use Rattle.sample_binder.specs.Binder.{AreContextsSeen}
 use Rattle.sample_binder.specs.Queue.{State}
@@ -20,5 +20,6 @@ returns-clause-drains c =
           (c.drain_data.ensures.follows limits c.drain_context.new.contexts calls taken none (c.drain_context.ensures.follows limits c.args.packets.now calls taken h));
       context_size = c.drain_context.ensures.size;
       data_size = c.drain_data.ensures.size;
+      kept = omega (arith, ap (λ (s : State). length s.queue) c.end.ensures.state, c.drain_data.ensures.kept, ap length c.drain_context.ensures.queue);
       pending = ap (λ (s : State). s.pending) c.end.ensures.state ∙ c.drain_data.ensures.pending ∙ c.drain_context.ensures.pending;
     }

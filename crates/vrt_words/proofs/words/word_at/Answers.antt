@@ -1,7 +1,5 @@
 -- The word that is read is the list's, and there is none where the list is shorter.
-use Rattle.std.proofs.Common.{◌*◌, ◌∙◌, sym, ap, Some, arith}
-use Rattle.std.proofs.lemmas.List.{take_rest}
-use Rattle.byteorder.specs.Endian.{big_number}
+use Rattle.std.proofs.Common.{◌∙◌, sym, ap, Some, arith}
 use Rattle.vrt_words.proofs.WordLemmas.{word_at-there, word_at-missing}
 use Rattle.vrt_words.proofs.words.word_at.Goals as goal
 
@@ -9,7 +7,4 @@ pub returns-then-index-bytes-clause-word : goal.returns-then-index-bytes-clause-
 returns-then-index-bytes-clause-word c = sym (word_at-missing c.args.bytes.now c.args.index (omega arith))
 
 pub returns-clause-word : goal.returns-clause-word
-returns-clause-word c =
-    let xs = c.args.bytes.now in
-    let i = c.args.index in
-    ap Some (c.read_u32.ensures ∙ ap (big_number 4) (take_rest xs (4 * i))) ∙ sym (word_at-there xs i (omega arith))
+returns-clause-word c = ap Some c.word_in.ensures ∙ word_at-there c.args.bytes.now c.args.index (omega arith)

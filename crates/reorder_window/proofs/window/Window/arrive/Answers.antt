@@ -41,3 +41,9 @@ returns-in-Fresh-clause-stands g c = λ h. rw (← c.self.view_is) (λ s. (fresh
 
 pub returns-in-Fresh-clause-given : goal.returns-in-Fresh-clause-given
 returns-in-Fresh-clause-given g c = λ h. rw (← c.self.view_is) (λ s. (fresh-defined g.T.HeldItem.is_same _ h _ _ _ _ _ _ (sym (ap length c.deref.ensures.value) ∙ c.deref.ensures.len) s (rw c.deref.ensures.value at c.in-Fresh.ensures) c.accept.ensures.kept c.accept.ensures.released).gains)
+
+pub returns-in-Fresh-clause-undrained : goal.returns-in-Fresh-clause-undrained
+returns-in-Fresh-clause-undrained g c = record {
+  arrivals = _;
+  stands = returns-in-Fresh-clause-stands g c c.requires.undrained.arrivals c.requires.undrained.stands;
+}

@@ -8,8 +8,14 @@ use Rattle.sample_binder.specs.Binder.{Bound, IsBound, StandsFor, Follows, witho
 use Rattle.sample_binder.specs.Events.{Event}
 use Rattle.sample_binder.specs.Queue.{State, owed}
 use Rattle.sample_binder.specs.Queue as queue
-use Rattle.sample_binder.proofs.BinderLemmas.{later_released, seen_context, turned_context, answer_context, follows_context, bound_context, added_within, grammar_of, same_but}
+use Rattle.sample_binder.proofs.BinderLemmas.{undrained_contexts, later_released, seen_context, turned_context, answer_context, follows_context, bound_context, added_within, grammar_of, same_but}
 use Rattle.sample_binder.proofs.binder.Binder.context.Goals as goal
+
+pub arrive_context-requires-clause-undrained : goal.arrive_context-requires-clause-undrained
+arrive_context-requires-clause-undrained c =
+    let inside = c.self.inside in
+    let untold : inside.told ≡ false = ap (λ (b : Bound). b.told) c.self.view_is ∙ c.requires.untold in
+    undrained_contexts inside.limits.kept inside.given inside.contexts inside.binding.line inside.told c.self.invariant.seen.contexts_seen untold
 
 pub give_context-requires-clause-later : goal.give_context-requires-clause-later
 give_context-requires-clause-later c =

@@ -1,17 +1,27 @@
-use Rattle.std.proofs.Common.{◌≡◌, ◌<◌, ◌^◌, [], List, Ok, Err, false, bytes_eq, refl, sym, ap, ◌∙◌, subst, arith}
+use Rattle.std.proofs.Common.{◌≡◌, ◌+◌, ◌<◌, ◌^◌, [], List, length, Ok, Err, false, bytes_eq, refl, sym, ap, ◌∙◌, subst, arith}
 use Rattle.std.proofs.lemmas.List.{append-nil}
 use Rattle.vrt_words.specs.Buffer.{Buffer}
 use Rattle.reorder_window.specs.State.{Holding}
 use Rattle.sample_binder.specs.Arrivals.{released_list}
 use Rattle.sample_binder.specs.Released.{queue_with}
-use Rattle.sample_binder.specs.Binder.{Bound, IsBound, StandsFor, Follows, without_release}
+use Rattle.sample_binder.specs.Binder.{Bound, IsBound, StandsFor, Follows, number_kept, without_release}
+use Rattle.sample_binder.specs.Calls.{data_entry}
 use Rattle.sample_binder.specs.Events.{Event}
+use Rattle.sample_binder.specs.Queue.{State, owed}
 use Rattle.sample_binder.specs.Queue as queue
-use Rattle.sample_binder.proofs.BinderLemmas.{data_bytes, front_released, seen_data, turned_data, buffer_back, answer_data, follows_data, bound_data, same_but}
+use Rattle.sample_binder.proofs.BinderLemmas.{undrained_packets, data_bytes, front_released, seen_data, turned_data, buffer_back, answer_data, follows_data, bound_data, same_but}
+use Rattle.sample_binder.proofs.KeptLemmas.{one_more_seen, one_release, length-queue_with, few_where_nothing}
+use Rattle.sample_binder.proofs.NextLemmas.{held_within}
 use Rattle.sample_binder.proofs.binder.Binder.data.Goals as goal
 
-pub arrive_data-requires : goal.arrive_data-requires
-arrive_data-requires c = record { front = data_bytes c.args.self.now.profile c.args.buf.bytes c.requires.grammar }
+pub arrive_data-requires-clause-front : goal.arrive_data-requires-clause-front
+arrive_data-requires-clause-front c = data_bytes c.args.self.now.profile c.args.buf.bytes c.requires.grammar
+
+pub arrive_data-requires-clause-undrained : goal.arrive_data-requires-clause-undrained
+arrive_data-requires-clause-undrained c =
+    let inside = c.self.inside in
+    let untold : inside.told ≡ false = ap (λ (b : Bound). b.told) c.self.view_is ∙ c.requires.untold in
+    undrained_packets inside.packets inside.told c.self.invariant.seen.packets_seen untold
 
 pub give_data-requires-clause-front : goal.give_data-requires-clause-front
 give_data-requires-clause-front c =
@@ -94,3 +104,42 @@ returns-in-Err-clause-buffer c =
     let untold : inside.told ≡ false = ap (λ (b : Bound). b.told) c.self.view_is ∙ c.requires.untold in
     buffer_back (λ a b. bytes_eq a.bytes b.bytes) inside.packets c.arrive_data.new.window inside.told c.args.buf (Err c.in-Err.turned) c.self.invariant.seen.packets_seen untold
     c.in-Err.ensures.takes (data_bytes c.args.self.now.profile c.args.buf.bytes c.requires.grammar) c.in-Err.turned refl
+
+pub returns-in-Ok-clause-one_more : goal.returns-in-Ok-clause-one_more
+returns-in-Ok-clause-one_more c =
+    let inside = c.self.inside in
+    let untold : inside.told ≡ false = ap (λ (b : Bound). b.told) c.self.view_is ∙ c.requires.untold in
+    let held = one_more_seen (λ a b. bytes_eq a.bytes b.bytes) inside.packets c.arrive_data.new.window inside.told (data_entry c.args.buf) c.in-Ok.released c.self.invariant.seen.packets_seen untold c.in-Ok.ensures.takes c.in-Ok.ensures.size in
+    let queue = ap (λ (s : State). length s.queue) c.give_data.ensures.state ∙ length-queue_with inside.binding.queue c.in-Ok.released in
+    let before : length inside.packets.held + length inside.binding.queue ≡ number_kept c.args.self.now = ap number_kept c.self.view_is in
+    omega (arith, held, queue, before)
+
+pub returns-in-Ok-clause-few_kept : goal.returns-in-Ok-clause-few_kept
+returns-in-Ok-clause-few_kept c =
+    let inside = c.self.inside in
+    let untold : inside.told ≡ false = ap (λ (b : Bound). b.told) c.self.view_is ∙ c.requires.untold in
+    let seen = seen_data (λ a b. bytes_eq a.bytes b.bytes) inside.packets c.arrive_data.new.window inside.told c.args.buf (Ok c.in-Ok.released) c.self.invariant.seen.packets_seen untold
+    c.in-Ok.ensures.takes (data_bytes c.args.self.now.profile c.args.buf.bytes c.requires.grammar) in
+    let held = held_within c.arrive_data.new.window inside.told seen in
+    let queue = ap (λ (s : State). length s.queue) c.give_data.ensures.state ∙ length-queue_with inside.binding.queue c.in-Ok.released in
+    let before = few_where_nothing inside.binding (ap (λ (b : Bound). owed b.state) c.self.view_is ∙ c.requires.nothing) in
+    omega (arith, held, c.in-Ok.ensures.size, c.self.invariant.data_size, queue, one_release c.in-Ok.released, before, c.self.invariant.pending)
+
+pub returns-in-Ok-clause-few_wait : goal.returns-in-Ok-clause-few_wait
+returns-in-Ok-clause-few_wait c =
+    let inside = c.self.inside in
+    let queue = ap (λ (s : State). length s.queue) c.give_data.ensures.state ∙ length-queue_with inside.binding.queue c.in-Ok.released in
+    let before = few_where_nothing inside.binding (ap (λ (b : Bound). owed b.state) c.self.view_is ∙ c.requires.nothing) in
+    omega (arith, queue, one_release c.in-Ok.released, before, c.self.invariant.pending)
+
+pub returns-in-Err-clause-few_kept : goal.returns-in-Err-clause-few_kept
+returns-in-Err-clause-few_kept c =
+    let inside = c.self.inside in
+    let before = few_where_nothing inside.binding (ap (λ (b : Bound). owed b.state) c.self.view_is ∙ c.requires.nothing) in
+    let held = held_within inside.packets inside.told c.self.invariant.seen.packets_seen in
+    omega (arith, ap (λ (w : Holding Buffer). length w.held) (same_packets c), held, before, c.self.invariant.data_size, c.self.invariant.pending)
+
+pub returns-in-Err-clause-few_wait : goal.returns-in-Err-clause-few_wait
+returns-in-Err-clause-few_wait c =
+    let before = few_where_nothing c.self.inside.binding (ap (λ (b : Bound). owed b.state) c.self.view_is ∙ c.requires.nothing) in
+    omega (arith, before, c.self.invariant.pending)

@@ -7,7 +7,7 @@ use Rattle.vrt_words.specs.Words.{words_of, AreWords, AreBytes}
 use Rattle.vrt_words.specs.Begins.{Begins, IsDatagram, IsRefusedAt, IsRefused}
 use Rattle.vrt_words.proofs.WordLaws.{words_of-words, AreWords-nil, AreWords-cons, AreWords-append, AreWords-take, AreWords-drop}
 use Rattle.vrt_words.proofs.BeginLaws.{Begins-below}
-use Rattle.command_prologue.specs.Growing.{AreGrown, IsStoppedAt}
+use Rattle.vrt_words.specs.Growing.{AreGrown, IsStoppedAt}
 
 module _ {F V : Type 0} (IsFront : F → List ℕ → Type 0) (IsWhole : V → List ℕ → Type 0) (IsBegun : F → List ℕ → Type 0) (most : F → ℕ)
     (grown : AreGrown IsFront IsWhole IsBegun most) where

@@ -1,11 +1,12 @@
 ghost use Rattle.std.specs.Prelude.{◌≡◌, ◌*◌, length, IfOk, IfErr};
-ghost use Rattle.command_prologue.specs.Sizes.{IsOtherSize};
+ghost use Rattle.vrt_words.specs.Sizes.{IsOtherSize};
 
-use vrt_words::Place;
+use crate::place::Place;
 
 /// Whether a datagram has so many words, and no byte more.
 ///
 /// `Err` at the number of whole words where bytes are missing, and at the size where there are more.
+#[inline(always)]
 pub fn check_size(bytes: &[u8], size: u16) -> Result<(), Place>
     ensures right { IfOk result (λ _. length bytes.now ≡ 4 * size) }
     ensures other { IfErr result (λ place. IsOtherSize size bytes.now place.word) }

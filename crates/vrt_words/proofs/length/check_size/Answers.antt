@@ -1,7 +1,7 @@
 -- The number of whole words, or the size.
 use Rattle.std.proofs.Common.{arith}
 use Rattle.vrt_words.proofs.WordLaws.{length-words_of}
-use Rattle.command_prologue.proofs.length.check_size.Goals as goal
+use Rattle.vrt_words.proofs.length.check_size.Goals as goal
 
 pub returns-clause-other : goal.returns-clause-other
 returns-clause-other c =

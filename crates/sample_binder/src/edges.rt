@@ -1,0 +1,262 @@
+//! Rules at their edges: what is just so, and what just is not.
+use crate::harness::*;
+use crate::script::Step::{Bound, Context, Data, End, Nothing, Packet, Raw, Uncertain};
+use crate::script::{Step, Wrong, play};
+use crate::tests::{FASTER, FOUR, LIMITS, NARROW, ONE, SLOW, SLOW_OTHER_GAIN, TWO};
+use crate::{Limits, Reason};
+use std::alloc::Global;
+
+/// Windows of size 0, of which more contexts are kept.
+const EIGHT_KEPT: Limits = Limits {
+    data_window: 0,
+    context_window: 0,
+    kept: 8,
+    pending: 8,
+};
+
+/// Windows of size 1, and one packet may wait.
+const HELD_AND_ONE_WAITS: Limits = Limits {
+    data_window: 1,
+    context_window: 1,
+    kept: 4,
+    pending: 1,
+};
+
+/// 2 Hz and 16 bits an item, in the other packing.
+const OTHER_PACKING: Tuning = Tuning {
+    gain: 0x500,
+    rate: (0, 0x0020_0000),
+    format: 0x2000_03CF,
+};
+
+/// 2^-20 Hz more than 2 Hz.
+const HARDLY_FASTER: Tuning = Tuning {
+    gain: 0x500,
+    rate: (0, 0x0020_0001),
+    format: 0xA000_03CF,
+};
+
+/// 1 Hz, the least rate.
+const SLOWEST: Tuning = Tuning {
+    gain: 0x500,
+    rate: (0, 0x0010_0000),
+    format: 0xA000_03CF,
+};
+
+const SLOWEST_OTHER_GAIN: Tuning = Tuning {
+    gain: 0x600,
+    rate: (0, 0x0010_0000),
+    format: 0xA000_03CF,
+};
+
+// The last of the four samples is captured at 1.5 s, the stamp of the second context.
+#[test]
+fn a_packet_waits_where_its_last_sample_is_at_the_horizon(rt: HostRuntime) -> Result<(), Wrong> {
+    let steps = [
+        Data(START, 0, FOUR),
+        Context(START, 0, CHANGED, SLOW),
+        Context(ONE_AND_A_HALF, 1, CHANGED, SLOW_OTHER_GAIN),
+        Nothing,
+        Context(TWO_SECONDS, 2, CHANGED, SLOW),
+        Packet(0),
+        Bound(START, 0, 3, START, SLOW, 16),
+        Bound(START, 3, 1, ONE_AND_A_HALF, SLOW_OTHER_GAIN, 16),
+        Nothing,
+    ];
+    play(rt.alloc(), LIMITS, &steps)
+}
+
+// The last of the four samples is captured half a second before the second context.
+#[test]
+fn a_packet_leaves_where_its_last_sample_is_below_the_horizon(
+    rt: HostRuntime,
+) -> Result<(), Wrong> {
+    let steps = [
+        Data(START, 0, FOUR),
+        Context(START, 0, CHANGED, SLOW),
+        Nothing,
+        Context(TWO_SECONDS, 1, CHANGED, SLOW),
+        Packet(0),
+        Bound(START, 0, 4, START, SLOW, 16),
+        Nothing,
+    ];
+    play(rt.alloc(), LIMITS, &steps)
+}
+
+#[test]
+fn a_sample_at_the_horizon_is_uncertain_at_the_end(rt: HostRuntime) -> Result<(), Wrong> {
+    let steps = [
+        Data(START, 0, FOUR),
+        Context(START, 0, CHANGED, SLOW),
+        Context(ONE_AND_A_HALF, 1, CHANGED, SLOW),
+        Nothing,
+        End,
+        Packet(0),
+        Bound(START, 0, 3, START, SLOW, 16),
+        Uncertain(Reason::Ended, START, 3, 1, ONE_AND_A_HALF, 16),
+        Nothing,
+    ];
+    play(rt.alloc(), LIMITS, &steps)
+}
+
+// Contexts at 0 s, at 1 s with this tuning, and at 2 s, and then four samples from 0 s on, of which two are bound and two
+// leave with this run.
+fn two_bound_and(alloc: Global, second: Tuning, run: Step) -> Result<(), Wrong> {
+    let steps = [
+        Context(START, 0, CHANGED, SLOW),
+        Context(ONE_SECOND, 1, CHANGED, second),
+        Context(TWO_SECONDS, 2, CHANGED, SLOW),
+        Data(START, 0, FOUR),
+        Packet(0),
+        Bound(START, 0, 2, START, SLOW, 16),
+        run,
+        Nothing,
+    ];
+    play(alloc, LIMITS, &steps)
+}
+
+/// The last two of four samples, of another format.
+const TWO_CHANGED: Step = Uncertain(Reason::FormatChanged, START, 2, 2, ONE_SECOND, 16);
+
+#[test]
+fn another_format_of_the_same_item_size_is_another_format(rt: HostRuntime) -> Result<(), Wrong> {
+    two_bound_and(rt.alloc(), OTHER_PACKING, TWO_CHANGED)
+}
+
+#[test]
+fn another_item_size_at_the_same_rate_is_another_format(rt: HostRuntime) -> Result<(), Wrong> {
+    two_bound_and(rt.alloc(), NARROW, TWO_CHANGED)
+}
+
+#[test]
+fn another_rate_in_its_last_bit_is_another_format(rt: HostRuntime) -> Result<(), Wrong> {
+    two_bound_and(rt.alloc(), HARDLY_FASTER, TWO_CHANGED)
+}
+
+#[test]
+fn two_contexts_with_equal_fields_are_two(rt: HostRuntime) -> Result<(), Wrong> {
+    let run = Bound(START, 2, 2, ONE_SECOND, SLOW, 16);
+    two_bound_and(rt.alloc(), SLOW, run)
+}
+
+// Contexts every half second from 0 to 2 s with these counts and tunings, and then four samples from 0 s on, one under
+// each of the first four contexts, of which the first is bound and what follows leaves so.
+fn four_under_four(
+    alloc: Global,
+    counts: [u8; 4],
+    tunings: [Tuning; 2],
+    rest: [Step; 3],
+) -> Result<(), Wrong> {
+    let steps = [
+        Context(START, 0, CHANGED, SLOW),
+        Context(HALF_PAST, counts[0], CHANGED, tunings[0]),
+        Context(ONE_SECOND, counts[1], CHANGED, tunings[1]),
+        Context(ONE_AND_A_HALF, counts[2], CHANGED, SLOW),
+        Context(TWO_SECONDS, counts[3], CHANGED, SLOW),
+        Data(START, 0, FOUR),
+        Packet(0),
+        Bound(START, 0, 1, START, SLOW, 16),
+        rest[0],
+        rest[1],
+        rest[2],
+    ];
+    play(alloc, EIGHT_KEPT, &steps)
+}
+
+/// The last of the four samples, bound again.
+const LAST_BOUND: Step = Bound(START, 3, 1, ONE_AND_A_HALF, SLOW, 16);
+
+#[test]
+fn one_context_lost_and_two_are_two_stretches(rt: HostRuntime) -> Result<(), Wrong> {
+    let rest = [
+        Uncertain(Reason::ContextLost(1), START, 1, 1, HALF_PAST, 16),
+        Uncertain(Reason::ContextLost(2), START, 2, 1, ONE_SECOND, 16),
+        LAST_BOUND,
+    ];
+    four_under_four(rt.alloc(), [1, 3, 6, 7], [SLOW, SLOW], rest)
+}
+
+#[test]
+fn one_context_lost_twice_is_one_stretch(rt: HostRuntime) -> Result<(), Wrong> {
+    let rest = [
+        Uncertain(Reason::ContextLost(1), START, 1, 2, HALF_PAST, 16),
+        LAST_BOUND,
+        Nothing,
+    ];
+    four_under_four(rt.alloc(), [1, 3, 5, 6], [SLOW, SLOW], rest)
+}
+
+#[test]
+fn another_format_over_two_contexts_is_one_stretch(rt: HostRuntime) -> Result<(), Wrong> {
+    let rest = [
+        Uncertain(Reason::FormatChanged, START, 1, 2, HALF_PAST, 16),
+        LAST_BOUND,
+        Nothing,
+    ];
+    four_under_four(rt.alloc(), [1, 2, 3, 4], [FASTER, NARROW], rest)
+}
+
+// The second context has the count of the first: fifteen were lost between them.
+#[test]
+fn fifteen_contexts_lost_are_told(rt: HostRuntime) -> Result<(), Wrong> {
+    let steps = [
+        Context(START, 3, CHANGED, SLOW),
+        Context(ONE_SECOND, 3, UNCHANGED, SLOW),
+        Data(HALF_PAST, 0, ONE),
+        Packet(0),
+        Raw(Reason::ContextLost(15), HALF_PAST, 0),
+        Nothing,
+    ];
+    play(rt.alloc(), LIMITS, &steps)
+}
+
+#[test]
+fn fifteen_packets_lost_are_told(rt: HostRuntime) -> Result<(), Wrong> {
+    let steps = [
+        Context(START, 0, CHANGED, SLOW),
+        Context(THREE_SECONDS, 1, CHANGED, SLOW),
+        Data(START, 7, ONE),
+        Packet(0),
+        Bound(START, 0, 1, START, SLOW, 16),
+        Data(ONE_SECOND, 7, ONE),
+        Packet(15),
+        Bound(ONE_SECOND, 0, 1, ONE_SECOND, SLOW, 16),
+        Nothing,
+    ];
+    play(rt.alloc(), LIMITS, &steps)
+}
+
+// At the end the held context comes first, and then one more packet than may wait: the first was due before it.
+#[test]
+fn held_contexts_come_before_held_packets_at_the_end(rt: HostRuntime) -> Result<(), Wrong> {
+    let steps = [
+        Context(START, 0, CHANGED, SLOW),
+        Context(ONE_SECOND, 1, CHANGED, SLOW),
+        Data(START, 0, ONE),
+        Data(HALF_PAST, 1, ONE),
+        Nothing,
+        End,
+        Packet(0),
+        Bound(START, 0, 1, START, SLOW, 16),
+        Packet(0),
+        Bound(HALF_PAST, 0, 1, HALF_PAST, SLOW, 16),
+        Nothing,
+    ];
+    play(rt.alloc(), HELD_AND_ONE_WAITS, &steps)
+}
+
+// The second context is in force from 0.5 s on; the second sample is captured at 1 s.
+#[test]
+fn a_context_between_two_samples_has_the_second(rt: HostRuntime) -> Result<(), Wrong> {
+    let steps = [
+        Context(START, 0, CHANGED, SLOWEST),
+        Context(HALF_PAST, 1, CHANGED, SLOWEST_OTHER_GAIN),
+        Context(TWO_SECONDS, 2, CHANGED, SLOWEST),
+        Data(START, 0, TWO),
+        Packet(0),
+        Bound(START, 0, 1, START, SLOWEST, 16),
+        Bound(START, 1, 1, ONE_SECOND, SLOWEST_OTHER_GAIN, 16),
+        Nothing,
+    ];
+    play(rt.alloc(), LIMITS, &steps)
+}
