@@ -3,7 +3,8 @@ use Rattle.std.specs.Prelude.{ℕ, ◌^◌, ◌==◌, if◌then◌else◌, List,
 use Rattle.vrt_fields.specs.declared.field.Field.{Field}
 use Rattle.vrt_fields.specs.Field.{fields_in_order, bit_of}
 use Rattle.vrt_fields.specs.FieldSet.{FieldValues, value_of, mask_of, bit_in, index_of}
-use Rattle.vrt_fields.specs.Text.{hexadecimal, field_text}
+use Rattle.vrt_fields.specs.NumberText.{hexadecimal}
+use Rattle.vrt_fields.specs.Text.{field_text}
 use Rattle.cam_field.specs.Spelling.{word_of_cam}
 use Rattle.cam_field.specs.declared.ident.Ident.{Ident}
 use Rattle.cam_field.specs.declared.ident.Ident.TheVariants as idents

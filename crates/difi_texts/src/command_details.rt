@@ -1,7 +1,7 @@
 ghost use Rattle.std.specs.Prelude.{◌≡◌, ◌≤◌, ◌+◌, ◌^◌, ◌++◌, length, flat_map, IfSome, codes};
 ghost use Rattle.vrt_fields.specs.Field.{bit_of, fields_in_order};
 ghost use Rattle.vrt_fields.specs.FieldSet.{FitsField, index_of};
-ghost use Rattle.vrt_fields.specs.Text.{hexadecimal};
+ghost use Rattle.vrt_fields.specs.NumberText.{hexadecimal};
 ghost use Rattle.cam_field.specs.Spelling.{word_of_cam};
 ghost use Rattle.difi_texts.specs.Prologue.{indented};
 ghost use Rattle.difi_texts.specs.CommandDetails.{word_line, spaced, identity, command_lines, front_lines};
