@@ -1,7 +1,7 @@
 -- A value with a payload or a packet has one record.
 use Rattle.std.proofs.Common.{◌≡◌, ℕ, zero, suc, ◌+◌, ◌*◌, ◌/◌, ◌%◌, ◌^◌, ◌≤◌, List, [], ◌∷◌, ◌++◌, map, length, take, drop, get_or, refl, sym, ap, ap₂, ◌∙◌, subst, Option, Some, None, take-append-drop, arith}
 use Rattle.std.specs.List.{range_with_len}
-use Rattle.std.proofs.lemmas.List.{length-take-le, drop_more, take_at, drop_at, get_or-drop}
+use Rattle.std.proofs.lemmas.List.{length-take-le, drop_more, take_at, drop_at}
 use Rattle.std.proofs.Math.Seq.{take-add}
 use Rattle.vrt_words.specs.Words.{words_of, AreBytes}
 use Rattle.vrt_words.proofs.WordLaws.{words_of-take, words_of-words, length-words_of, one_spelling, AreBytes-take, AreBytes-drop}
