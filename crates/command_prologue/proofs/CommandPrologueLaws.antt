@@ -9,7 +9,7 @@ use Rattle.vrt_words.specs.Words.{AreWords}
 use Rattle.vrt_words.specs.Begins.{IsRefusedAt}
 use Rattle.vrt_header.specs.Profile.{PacketProfile}
 use Rattle.vrt_header.specs.Header.{IsKind, IsHeader, is_size, prologue_words}
-use Rattle.vrt_header.specs.Prologue.{IsPrologue}
+use Rattle.vrt_header.specs.Prologue.{IsPrologue, IsPrologueOf}
 use Rattle.vrt_header.proofs.PrologueLaws.{one_header, one_prologue}
 use Rattle.vrt_header.specs.declared.header.Kind.{Kind}
 use Rattle.vrt_header.specs.declared.header.Kind.TheVariants as kinds
@@ -29,7 +29,7 @@ use Rattle.cam_field.specs.declared.modes.Timing.{Timing}
 use Rattle.cam_field.specs.declared.modes.Timing.TheVariants as timings
 use Rattle.cam_field.specs.declared.modes.Role.{Role}
 use Rattle.cam_field.specs.declared.modes.Role.TheVariants.{Control, Cancel, Ack}
-use Rattle.command_prologue.specs.CommandPrologue.{kind_of, IsIdentity, identity_words, IsContentSize, IsMode, IsBehind, IsPrologueOf, IsCommandPrologue, command_words}
+use Rattle.command_prologue.specs.CommandPrologue.{kind_of, IsIdentity, identity_words, IsContentSize, IsMode, IsBehind, IsCommandPrologue, command_words}
 use Rattle.vrt_words.specs.Growing.{AreGrown}
 use Rattle.vrt_words.proofs.GrowingLaws.{refused_in_front, refused_behind, none_in_front}
 use Rattle.command_prologue.specs.Steps.{IsBegun, IsCutAt, AreNamed}
@@ -214,7 +214,7 @@ mode_of_size Control p h = control_mode p h
 mode_of_size Cancel p h = cancel_mode p h
 mode_of_size Ack p h = ack_mode p h
 
-pub mode_there : (profile : PacketProfile) (role : Role) (p : Prologue) (words : List ℕ) → IsPrologueOf profile role p words → HasMode role p
+pub mode_there : (profile : PacketProfile) (role : Role) (p : Prologue) (words : List ℕ) → IsPrologueOf profile (kind_of role) p words → HasMode role p
 mode_there profile role p words h =
     mode_of_size role p (subst (λ (k : Kind). is_size k p.header.timed p.header.size ≡ true) h.kind h.prologue.header.size_allowed)
 
@@ -387,7 +387,7 @@ module _ (profile : PacketProfile) (role : Role) where
       let row : take n words ≡ take m words = t.1 ∙ ap (λ i. take i words) long ∙ sym s.1 in
       one_command_prologue profile role a b (take m words) p (subst (IsCommandPrologue profile role b) row q)
 
-  whole_prologue : (p : Prologue) (cam : Cam) (word message : ℕ) (front words : List ℕ) → IsPrologueOf profile role p front → IsMode role p cam word
+  whole_prologue : (p : Prologue) (cam : Cam) (word message : ℕ) (front words : List ℕ) → IsPrologueOf profile (kind_of role) p front → IsMode role p cam word
       → length words ≡ identity_words cam → (v : CommandPrologue) × IsCommandPrologue profile role v (front ++ (word ∷ message ∷ words))
   unfolding front_in
   whole_prologue p cam word message front words is mode long =
@@ -397,12 +397,12 @@ module _ (profile : PacketProfile) (role : Role) where
       let rest : drop n (front ++ behind) ≡ behind = drop_at front behind n is.prologue.all in (
         front_in p cam message words,
         record {
-          prologue = subst (IsPrologueOf profile role p) (sym there) is;
+          prologue = subst (IsPrologueOf profile (kind_of role) p) (sym there) is;
           behind = subst (IsBehind role (front_in p cam message words)) (sym rest) (behind_in role p cam word message words mode long);
         },
       )
 
-  next_word : (p : Prologue) (front words : List ℕ) → IsPrologueOf profile role p front → AreWords words → IsBegun role p words
+  next_word : (p : Prologue) (front words : List ℕ) → IsPrologueOf profile (kind_of role) p front → AreWords words → IsBegun role p words
       → ((v : CommandPrologue) × IsCommandPrologue profile role v (front ++ words)) ⊎ ((x : ℕ) × ((x < 2 ^ 32) × IsBegun role p (words ++ x ∷ [])))
   next_word p front [] is fit begun =
       let mode = mode_there profile role p front is in
@@ -413,14 +413,14 @@ module _ (profile : PacketProfile) (role : Role) where
     | inr all ↦ inl (whole_prologue p begun.0 word message front words is begun.1.0 (omega (arith, begun.1.1)))
   ]
 
-  sound_behind : (p : Prologue) (v : CommandPrologue) (front words rest : List ℕ) → IsPrologueOf profile role p front
+  sound_behind : (p : Prologue) (v : CommandPrologue) (front words rest : List ℕ) → IsPrologueOf profile (kind_of role) p front
       → IsCommandPrologue profile role v (front ++ (words ++ rest)) → IsBegun role p words
   sound_behind p v front words rest is whole =
       let start = one_start profile p v.prologue front (words ++ rest) is.prologue whole.prologue.prologue in
       let behind : drop (prologue_words v.prologue.header.timed) (front ++ (words ++ rest)) ≡ words ++ rest = drop_at front (words ++ rest) _ (sym start.1) in
       subst (λ (q : Prologue). IsBegun role q words) start.0 (begun_by_behind role v words rest (subst (IsBehind role v) behind whole.behind))
 
-  grown : AreGrown (IsPrologueOf profile role) (IsCommandPrologue profile role) (IsBegun role) (λ p. 10)
+  grown : AreGrown (IsPrologueOf profile (kind_of role)) (IsCommandPrologue profile role) (IsBegun role) (λ p. 10)
   grown = record {
     front = λ v words h. (v.prologue, (prologue_words v.prologue.header.timed, h.prologue));
     sound = sound_behind;
@@ -430,22 +430,22 @@ module _ (profile : PacketProfile) (role : Role) where
   }
 
   -- a prologue that is refused, and one behind which a word is wrong or missing
-  pub refused_in_prologue : (words : List ℕ) (place : ℕ) → IsRefusedAt (IsPrologueOf profile role) words place
-      → ((p : Prologue) (n : ℕ) → ¬ IsPrologueOf profile role p (take n words))
+  pub refused_in_prologue : (words : List ℕ) (place : ℕ) → IsRefusedAt (IsPrologueOf profile (kind_of role)) words place
+      → ((p : Prologue) (n : ℕ) → ¬ IsPrologueOf profile (kind_of role) p (take n words))
       → IsRefusedAt (IsCommandPrologue profile role) words place × ((v : CommandPrologue) (n : ℕ) → ¬ IsCommandPrologue profile role v (take n words))
   refused_in_prologue words place at none = (
-    refused_in_front (IsPrologueOf profile role) (IsCommandPrologue profile role) (IsBegun role) (λ p. 10) grown words place at none,
-    none_in_front (IsPrologueOf profile role) (IsCommandPrologue profile role) (IsBegun role) (λ p. 10) grown words none,
+    refused_in_front (IsPrologueOf profile (kind_of role)) (IsCommandPrologue profile role) (IsBegun role) (λ p. 10) grown words place at none,
+    none_in_front (IsPrologueOf profile (kind_of role)) (IsCommandPrologue profile role) (IsBegun role) (λ p. 10) grown words none,
   )
 
   pub refused_behind_prologue : (p : Prologue) (words : List ℕ) (k : ℕ) → AreWords words → prologue_words p.header.timed ≤ length words
-      → IsPrologueOf profile role p (take (prologue_words p.header.timed) words) → IsCutAt role p (drop (prologue_words p.header.timed) words) k
+      → IsPrologueOf profile (kind_of role) p (take (prologue_words p.header.timed) words) → IsCutAt role p (drop (prologue_words p.header.timed) words) k
       → IsRefusedAt (IsCommandPrologue profile role) words (prologue_words p.header.timed + k)
   refused_behind_prologue p words k fit inside is cut =
-      refused_behind (IsPrologueOf profile role) (IsCommandPrologue profile role) (IsBegun role) (λ q. 10) grown p words (prologue_words p.header.timed) fit inside is k cut.stopped
+      refused_behind (IsPrologueOf profile (kind_of role)) (IsCommandPrologue profile role) (IsBegun role) (λ q. 10) grown p words (prologue_words p.header.timed) fit inside is k cut.stopped
 
   pub none_behind_prologue : (p : Prologue) (words : List ℕ) (k : ℕ) → prologue_words p.header.timed ≤ length words
-      → IsPrologueOf profile role p (take (prologue_words p.header.timed) words) → IsCutAt role p (drop (prologue_words p.header.timed) words) k
+      → IsPrologueOf profile (kind_of role) p (take (prologue_words p.header.timed) words) → IsCutAt role p (drop (prologue_words p.header.timed) words) k
       → (v : CommandPrologue) (n : ℕ) → ¬ IsCommandPrologue profile role v (take n words)
   none_behind_prologue p words k inside is cut v n h =
       let m = prologue_words p.header.timed in
@@ -476,10 +476,10 @@ module _ (profile : PacketProfile) (role : Role) where
   one_answer words (Ok found) ok none v n h = ap Ok (one_in_front found v ok.0 n words ok.1 h)
 
   -- a prologue that is there, with what stands behind it
-  pub prologue_inside : (p : Prologue) (words : List ℕ) → IsPrologueOf profile role p (take (prologue_words p.header.timed) words) → prologue_words p.header.timed ≤ length words
+  pub prologue_inside : (p : Prologue) (words : List ℕ) → IsPrologueOf profile (kind_of role) p (take (prologue_words p.header.timed) words) → prologue_words p.header.timed ≤ length words
   prologue_inside p words is = omega (arith, is.prologue.all, length-take (prologue_words p.header.timed) words)
 
-  pub whole_front : (p : Prologue) (front : CommandPrologue) (words : List ℕ) → IsPrologueOf profile role p (take (prologue_words p.header.timed) words)
+  pub whole_front : (p : Prologue) (front : CommandPrologue) (words : List ℕ) → IsPrologueOf profile (kind_of role) p (take (prologue_words p.header.timed) words)
       → front.prologue ≡ p → command_words front ≤ length words → IsBehind role front (take (2 + identity_words front.cam) (drop (prologue_words p.header.timed) words))
       → IsCommandPrologue profile role front (take (command_words front) words)
   whole_front p front words is same there behind =
@@ -492,8 +492,8 @@ module _ (profile : PacketProfile) (role : Role) where
       let first : take n (take (command_words front) words) ≡ take n words = ap (take n) row ∙ take_at (take n words) (take j (drop n words)) n long in
       let rest : drop n (take (command_words front) words) ≡ take j (drop n words) = ap (drop n) row ∙ drop_at (take n words) (take j (drop n words)) n long in
       record {
-        prologue = subst (IsPrologueOf profile role front.prologue) (sym first)
-            (subst (λ i. IsPrologueOf profile role front.prologue (take i words)) e (subst (λ (q : Prologue). IsPrologueOf profile role q (take (prologue_words p.header.timed) words)) (sym same) is));
+        prologue = subst (IsPrologueOf profile (kind_of role) front.prologue) (sym first)
+            (subst (λ i. IsPrologueOf profile (kind_of role) front.prologue (take i words)) e (subst (λ (q : Prologue). IsPrologueOf profile (kind_of role) q (take (prologue_words p.header.timed) words)) (sym same) is));
         behind = subst (IsBehind role front) (sym rest) (subst (λ i. IsBehind role front (take j (drop i words))) e behind);
       }
 

@@ -1,3 +1,2 @@
-pub mod KindLaws
 pub mod CommandPrologueLaws
 pub mod SpellingLaws

@@ -2,7 +2,7 @@
 use Rattle.std.specs.Prelude.{◌≡◌, ℕ, ◌+◌, ◌*◌, ◌≤◌, Bool, true, false, List, ◌∷◌, ◌++◌, length, take, drop}
 use Rattle.vrt_header.specs.Profile.{PacketProfile}
 use Rattle.vrt_header.specs.Header.{prologue_words}
-use Rattle.vrt_header.specs.Prologue.{IsPrologue}
+use Rattle.vrt_header.specs.Prologue.{IsPrologueOf}
 use Rattle.vrt_header.specs.declared.header.Kind.{Kind}
 use Rattle.vrt_header.specs.declared.header.Kind.TheVariants as kinds
 use Rattle.vrt_header.specs.declared.prologue.Prologue.{Prologue}
@@ -61,14 +61,9 @@ pub record IsBehind (role : Role) (front : CommandPrologue) (words : List ℕ) :
   pub controller : IsIdentity front.cam.cr front.cam.ir front.controller
   pub all : words ≡ mode_word ∷ front.message ∷ (ident_words front.controllee ++ ident_words front.controller)
 
--- a prologue of the kind that has the role
-pub record IsPrologueOf (profile : PacketProfile) (role : Role) (p : Prologue) (words : List ℕ) : Type 0 where
-  pub prologue : IsPrologue profile p words
-  pub kind : p.header.kind ≡ kind_of role
-
 -- these words, and no others, are the prologue of a packet with this role
 pub record IsCommandPrologue (profile : PacketProfile) (role : Role) (front : CommandPrologue) (words : List ℕ) : Type 0 where
-  pub prologue : IsPrologueOf profile role front.prologue (take (prologue_words front.prologue.header.timed) words)
+  pub prologue : IsPrologueOf profile (kind_of role) front.prologue (take (prologue_words front.prologue.header.timed) words)
   pub behind : IsBehind role front (drop (prologue_words front.prologue.header.timed) words)
 
 -- its words

@@ -1,10 +1,9 @@
-ghost use Rattle.std.specs.Prelude.{◌≡◌, ◌+◌, ◌≤◌, ◌<◌, ◌↔◌, ℕ, IsTrue, true, length, take, drop, slice_index, IfOk, IfErr, Ok};
+ghost use Rattle.std.specs.Prelude.{◌≡◌, ◌+◌, ◌≤◌, ◌<◌, ℕ, true, length, take, drop, IfOk, IfErr, Ok};
 ghost use Rattle.vrt_words.specs.Words.{words_of};
 ghost use Rattle.vrt_words.specs.Begins.{IsRefusedAt};
-ghost use Rattle.vrt_header.specs.Header.{IsKind, prologue_words};
-ghost use Rattle.vrt_header.specs.declared.prologue.Prologue.{Prologue};
+ghost use Rattle.vrt_header.specs.Header.{prologue_words};
 ghost use Rattle.cam_field.specs.declared.cam.Cam.{Cam};
-ghost use Rattle.command_prologue.specs.CommandPrologue.{kind_of, identity_words, IsMode, IsBehind, IsPrologueOf, IsCommandPrologue, command_words};
+ghost use Rattle.command_prologue.specs.CommandPrologue.{kind_of, identity_words, IsMode, IsBehind, IsCommandPrologue, command_words};
 ghost use Rattle.command_prologue.specs.Steps.{IsCutAt, AreNamed};
 ghost use Rattle.command_prologue.specs.declared.prologue.CommandPrologue.{CommandPrologue};
 
@@ -12,8 +11,8 @@ use crate::identity::{identity_at, identity_size};
 use crate::mode::{identities_size, mode_of, prologue_size};
 use crate::prologue::CommandPrologue;
 use cam_field::{Cam, Role};
-use vrt_header::{Kind, Profile, Prologue, kind_of, read_prologue};
-use vrt_words::{Place, word_at, word_or_place};
+use vrt_header::{Kind, Profile, Prologue, read_prologue_of};
+use vrt_words::{Place, word_or_place};
 
 /// The prologue with which a packet of this role begins. What stands behind it is not judged, but
 /// the size in the header has to leave words that can stand there.
@@ -31,45 +30,20 @@ pub fn read_command_prologue(
         → result ≡ Ok front }
     ensures refused { IfErr result (λ place. IsRefusedAt (IsCommandPrologue profile role) (words_of bytes.now) place.word) }
 {
-    match prologue_of(profile, role, bytes) {
+    match read_prologue_of(profile, role_kind(role), bytes) {
         Ok(prologue) => read_behind(prologue, role, bytes),
         Err(place) => Err(place),
     }
 }
 
-// The prologue of a packet of the kind that has the role.
-fn prologue_of(profile: Profile, role: Role, bytes: &[u8]) -> Result<Prologue, Place>
-    ensures found { IfOk result (λ prologue.
-        IsPrologueOf profile role prologue (take (prologue_words prologue.header.timed) (words_of bytes.now))) }
-    ensures none { IfErr result (λ place. (prologue : Prologue) (n : ℕ)
-        → ¬ IsPrologueOf profile role prologue (take n (words_of bytes.now))) }
-    ensures refused { IfErr result (λ place. IsRefusedAt (IsPrologueOf profile role) (words_of bytes.now) place.word) }
+// The kind of packet that has the role.
+fn role_kind(role: Role) -> Kind
+    ensures { result ≡ kind_of role }
 {
-    if !has_kind(role, bytes) {
-        return Err(Place { word: 0 });
-    }
-    read_prologue(profile, bytes)
-}
-
-// Whether the first word is the header of a packet of the kind that has the role.
-fn has_kind(role: Role, bytes: &[u8]) -> bool
-    ensures { IsTrue result ↔ (0 < length (words_of bytes.now)) × IsKind (kind_of role) (slice_index (words_of bytes.now) 0) }
-{
-    match word_at(bytes, 0) {
-        Some(word) => is_kind(role, word),
-        None => false,
-    }
-}
-
-// Whether the word is the header of a packet of the kind that has the role.
-fn is_kind(role: Role, word: u32) -> bool
-    ensures { IsTrue result ↔ IsKind (kind_of role) word }
-{
-    match (role, kind_of(word)) {
-        (Role::Control, Some(Kind::Control))
-        | (Role::Cancel, Some(Kind::Cancel))
-        | (Role::Ack, Some(Kind::Ack)) => true,
-        _ => false,
+    match role {
+        Role::Control => Kind::Control,
+        Role::Cancel => Kind::Cancel,
+        Role::Ack => Kind::Ack,
     }
 }
 

@@ -73,3 +73,94 @@ fn a_prologue_is_refused_at_its_first_wrong_word(rt: HostRuntime) {
     class[2] = 0x006A621F;
     assert_eq!(rt; refused_at(profile, Role::Control, &class), Some(2));
 }
+
+// Whether the mode word is right with each size of the first list, and refused with each of the
+// second. The words of the header without its size, and of the mode, are given.
+fn is_sized(profile: Profile, role: Role, front: (u32, u32), right: &[u32], wrong: &[u32]) -> bool {
+    is_sized_all(profile, role, front, right, None)
+        && is_sized_all(profile, role, front, wrong, Some(4))
+}
+
+// Whether each of the sizes is answered so.
+fn is_sized_all(
+    profile: Profile,
+    role: Role,
+    front: (u32, u32),
+    sizes: &[u32],
+    place: Option<u32>,
+) -> bool {
+    for size in sizes {
+        let mut words = COMMAND;
+        words[0] = front.0 | *size;
+        words[4] = front.1;
+        if refused_at(profile, role, &words) != place {
+            return false;
+        }
+    }
+    true
+}
+
+// Five words of identities behind the six in front leave the sizes from 11 on.
+#[test]
+fn a_size_leaves_words_for_the_content_of_the_role(rt: HostRuntime) {
+    let profile = Profile::of(0x6A_621E, 1).expect(&rt, "a profile");
+    assert!(rt;
+        is_sized(
+            profile,
+            Role::Control,
+            (0x68000000, 0xB1080000),
+            &[12, 31],
+            &[7, 11, 32, 34]
+        )
+    );
+    assert!(rt;
+        is_sized(
+            profile,
+            Role::Cancel,
+            (0x69000000, 0xB0080000),
+            &[12],
+            &[7, 11, 15]
+        )
+    );
+}
+
+#[test]
+fn a_size_leaves_words_for_the_masks_of_an_answer(rt: HostRuntime) {
+    let profile = Profile::of(0x6A_621E, 1).expect(&rt, "a profile");
+    assert!(rt;
+        is_sized(
+            profile,
+            Role::Ack,
+            (0x6C000000, 0xB0080000),
+            &[11],
+            &[6, 10, 12]
+        )
+    );
+    assert!(rt;
+        is_sized(
+            profile,
+            Role::Ack,
+            (0x6C000000, 0xB00A0000),
+            &[12, 24],
+            &[11, 25]
+        )
+    );
+    assert!(rt;
+        is_sized(
+            profile,
+            Role::Ack,
+            (0x6C000000, 0xB00B0000),
+            &[13, 37],
+            &[12, 38]
+        )
+    );
+    assert!(rt;
+        is_sized(
+            profile,
+            Role::Ack,
+            (0x6C000000, 0xB0040000),
+            &[12, 31],
+            &[11, 32]
+        )
+    );
+}

@@ -3,6 +3,8 @@
 #![tactic(auto)]
 
 mod context;
+#[cfg(test)]
+mod edges;
 mod encoding;
 mod fields;
 mod round_trip;

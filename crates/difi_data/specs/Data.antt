@@ -2,7 +2,7 @@
 use Rattle.std.specs.Prelude.{◌≡◌, ℕ, ◌*◌, List, length, take, drop}
 use Rattle.vrt_words.specs.Words.{words_of, AreBytes}
 use Rattle.vrt_header.specs.Profile.{PacketProfile}
-use Rattle.vrt_header.specs.Prologue.{IsPrologue}
+use Rattle.vrt_header.specs.Prologue.{IsPrologueOf}
 use Rattle.vrt_header.specs.declared.header.Kind.TheVariants.{Data}
 use Rattle.vrt_header.specs.declared.prologue.Prologue.{Prologue}
 use Rattle.difi_data.specs.declared.packet.DataRec.{DataRec}
@@ -18,8 +18,7 @@ packet_of rec = record { prologue = rec.prologue; payload = rec.payload.now }
 
 -- these words, and no others, are a data packet; those behind the prologue are free
 pub record IsData (profile : PacketProfile) (packet : DataPacket) (words : List ℕ) : Type 0 where
-  pub prologue : IsPrologue profile packet.prologue (take 7 words)
-  pub kind : packet.prologue.header.kind ≡ Data
+  pub prologue : IsPrologueOf profile Data packet.prologue (take 7 words)
   -- the size counts all the words
   pub size : packet.prologue.header.size ≡ length words
   -- the payload is whole words of bytes

@@ -1,11 +1,11 @@
-ghost use Rattle.std.specs.Prelude.{◌≡◌, ◌≤◌, ◌<◌, ◌*◌, ◌↔◌, ℕ, List, IsTrue, length, take, drop, slice_index, IfOk, IfErr, IsOkAnd};
-ghost use Rattle.vrt_words.specs.Words.{words_of, bits, AreBytes, AreWords};
+ghost use Rattle.std.specs.Prelude.{◌≡◌, ◌≤◌, ◌*◌, ℕ, List, length, take, drop, IfOk, IfErr, IsOkAnd};
+ghost use Rattle.vrt_words.specs.Words.{words_of, AreBytes, AreWords};
 ghost use Rattle.vrt_words.specs.Begins.{IsDatagram, IsRefused};
 ghost use Rattle.difi_data.specs.Data.{DataPacket, IsData, packet_of};
-ghost use Rattle.difi_data.specs.Sizes.{IsOtherSize};
+ghost use Rattle.vrt_words.specs.Sizes.{IsOtherSize};
 
-use vrt_header::{Profile, Prologue, read_prologue, write_prologue};
-use vrt_words::{Place, bits_of, word_at};
+use vrt_header::{Kind, Profile, Prologue, read_prologue_of, write_prologue};
+use vrt_words::{Place, check_size};
 
 /// The bytes in front of the payload.
 const FRONT: usize = 28;
@@ -31,23 +31,9 @@ pub fn decode(profile: Profile, bytes: &[u8]) -> Result<DataRec<'_>, Place>
         → IsOkAnd result (λ rec. packet_of rec ≡ packet) }
     ensures refused { IfErr result (λ place. IsRefused (IsData profile) bytes.now place.word) }
 {
-    if !is_data(bytes) {
-        return Err(Place { word: 0 });
-    }
-    match read_prologue(profile, bytes) {
+    match read_prologue_of(profile, Kind::Data, bytes) {
         Ok(prologue) => read_behind(prologue, bytes),
         Err(place) => Err(place),
-    }
-}
-
-// Whether the packet type is that of data packets.
-fn is_data(bytes: &[u8]) -> bool
-    ensures { IsTrue result
-        ↔ (0 < length (words_of bytes.now)) × (bits (slice_index (words_of bytes.now) 0) 28 4 ≡ 1) }
-{
-    match word_at(bytes, 0) {
-        Some(word) => bits_of(word, 28, 4) == 1,
-        None => false,
     }
 }
 
@@ -58,21 +44,13 @@ fn read_behind(prologue: Prologue, bytes: &[u8]) -> Result<DataRec<'_>, Place>
         × (length bytes.now ≡ 4 * prologue.header.size)) }
     ensures refused { IfErr result (λ place. IsOtherSize prologue.header.size bytes.now place.word) }
 {
-    let size = 4 * usize::from(prologue.header.size);
-    if bytes.len() < size {
-        return Err(Place {
-            word: (bytes.len() / 4) as u32,
-        });
+    match check_size(bytes, prologue.header.size) {
+        Ok(()) => Ok(DataRec {
+            prologue,
+            payload: &bytes[FRONT..],
+        }),
+        Err(other) => Err(other),
     }
-    if bytes.len() > size {
-        return Err(Place {
-            word: u32::from(prologue.header.size),
-        });
-    }
-    Ok(DataRec {
-        prologue,
-        payload: &bytes[FRONT..],
-    })
 }
 
 /// Writes a data packet at the front of `into`, and answers its words. All other bytes stay.

@@ -1,6 +1,8 @@
+ghost use Rattle.std.specs.Prelude.{◌≤◌};
+
 use super::*;
 use vrt_header::Profile;
-use vrt_words::word_at;
+use vrt_words::{put_words, word_at};
 
 // The data packet of stream 1 at 1,700,000,000 s with one sample of 16 bits, (1, 2).
 const PACKET: [u8; 32] = [
@@ -68,4 +70,39 @@ fn eight_words_of_nine_are_refused_behind_them(rt: HostRuntime) {
     let mut bytes = PACKET;
     bytes[3] = 9;
     assert_eq!(rt; refused_at(profile, &bytes), Some(8));
+}
+
+// The place at which so many bytes of a packet are refused whose first word is this.
+fn refused_with(profile: Profile, first: u32, count: usize) -> Option<u32>
+    requires { count ≤ 40 }
+{
+    let mut bytes = [0; 40];
+    put_words(
+        &mut bytes,
+        0,
+        &[first, 1, 0x006A621E, 0, 0x6553F100, 0, 0, 0xFFFFFFFF, 0, 7],
+    );
+    refused_at(profile, &bytes[..count])
+}
+
+#[test]
+fn a_length_is_that_of_the_size(rt: HostRuntime) {
+    let profile = Profile::of(0x6A_621E, 1).expect(&rt, "a profile");
+    assert_eq!(rt; refused_with(profile, 0x18600008, 32), None);
+    assert_eq!(rt; refused_with(profile, 0x18600008, 31), Some(7));
+    assert_eq!(rt; refused_with(profile, 0x18600008, 33), Some(8));
+    assert_eq!(rt; refused_with(profile, 0x18600008, 40), Some(8));
+    assert_eq!(rt; refused_with(profile, 0x18600009, 36), None);
+    assert_eq!(rt; refused_with(profile, 0x18600009, 39), Some(9));
+    assert_eq!(rt; refused_with(profile, 0x1860000A, 40), None);
+    assert_eq!(rt; refused_with(profile, 0x1860000A, 27), Some(6));
+}
+
+#[test]
+fn a_header_of_another_kind_is_refused(rt: HostRuntime) {
+    let profile = Profile::of(0x6A_621E, 1).expect(&rt, "a profile");
+    assert_eq!(rt; refused_with(profile, 0x1A600008, 32), None);
+    assert_eq!(rt; refused_with(profile, 0x6860000A, 40), Some(0));
+    assert_eq!(rt; refused_with(profile, 0x4860001B, 40), Some(0));
+    assert_eq!(rt; refused_with(profile, 0x5860000B, 40), Some(0));
 }

@@ -1,6 +1,6 @@
 -- Laws of packets: the header tells the kind, and what is refused by its kind is refused by all.
 use Rattle.std.proofs.Common.{◌≡◌, ℕ, suc, ◌<◌, Bool, true, false, Result, Ok, Err, IfOk, IfErr, IsOkAnd, List, ◌++◌, length, take, get_or, sym, ap, ◌∙◌, subst, arith}
-use Rattle.std.proofs.lemmas.List.{get_or-take, length-take}
+use Rattle.std.proofs.lemmas.List.{length-take}
 use Rattle.vrt_words.specs.Words.{words_of}
 use Rattle.vrt_words.specs.Begins.{IsDatagram, IsRefused}
 use Rattle.vrt_words.proofs.BeginLaws.{begun_words}
@@ -8,6 +8,7 @@ use Rattle.vrt_header.specs.Profile.{PacketProfile}
 use Rattle.vrt_header.specs.Header.{IsKind, prologue_words}
 use Rattle.vrt_header.specs.Prologue.{IsPrologue}
 use Rattle.vrt_header.proofs.PrologueLaws.{one_kind}
+use Rattle.vrt_header.proofs.KindLaws.{kind_of_first}
 use Rattle.vrt_header.specs.declared.header.Kind.{Kind}
 use Rattle.vrt_header.specs.declared.header.Kind.TheVariants as kinds
 use Rattle.vrt_header.specs.declared.prologue.Prologue.{Prologue}
@@ -47,17 +48,12 @@ kind_in (ControlValue packet) = kinds.Control
 kind_in (CancelValue packet) = kinds.Cancel
 kind_in (AckValue packet) = kinds.Ack
 
-kind_of_prologue : (profile : PacketProfile) (p : Prologue) (kind : Kind) (words : List ℕ) → IsPrologue profile p (take 7 words) → p.header.kind ≡ kind
-    → IsKind kind (get_or words 0 0)
-kind_of_prologue profile p kind words h e =
-    subst (λ (k : Kind). IsKind k (get_or words 0 0)) e (subst (IsKind p.header.kind) (get_or-take 7 words 0 0 (omega arith)) h.header.kind)
-
 -- the header of a packet tells its kind
 pub kind_told : (profile : PacketProfile) (v : PacketValue) (words : List ℕ) → IsPacket profile v words → IsKind (kind_in v) (get_or words 0 0)
 unfolding kind_in
-kind_told profile (DataValue packet) words h = kind_of_prologue profile packet.prologue kinds.Data words h.prologue h.kind
-kind_told profile (ContextValue rec) words h = kind_of_prologue profile rec.prologue kinds.Context words h.prologue h.kind
-kind_told profile (VersionValue rec) words h = kind_of_prologue profile rec.prologue kinds.Version words h.prologue h.kind
+kind_told profile (DataValue packet) words h = kind_of_first profile kinds.Data packet.prologue words 7 h.prologue
+kind_told profile (ContextValue rec) words h = kind_of_first profile kinds.Context rec.prologue words 7 h.prologue
+kind_told profile (VersionValue rec) words h = kind_of_first profile kinds.Version rec.prologue words 7 h.prologue
 kind_told profile (ControlValue packet) words h = header_kind profile _ _ _ words h.front
 kind_told profile (CancelValue packet) words h = header_kind profile _ _ _ words h.front
 kind_told profile (AckValue packet) words h = header_kind profile _ _ _ words h.front
@@ -178,9 +174,9 @@ some_command profile role front n words h =
     omega (arith, some_front profile front.prologue (prologue_words front.prologue.header.timed) (take n words) h.prologue.prologue, length-take n words)
 
 some_word : (profile : PacketProfile) (v : PacketValue) (words : List ℕ) → IsPacket profile v words → 0 < length words
-some_word profile (DataValue packet) words h = some_front profile packet.prologue 7 words h.prologue
-some_word profile (ContextValue rec) words h = some_front profile rec.prologue 7 words h.prologue
-some_word profile (VersionValue rec) words h = some_front profile rec.prologue 7 words h.prologue
+some_word profile (DataValue packet) words h = some_front profile packet.prologue 7 words h.prologue.prologue
+some_word profile (ContextValue rec) words h = some_front profile rec.prologue 7 words h.prologue.prologue
+some_word profile (VersionValue rec) words h = some_front profile rec.prologue 7 words h.prologue.prologue
 some_word profile (ControlValue packet) words h = some_command profile _ _ _ words h.front
 some_word profile (CancelValue packet) words h = some_command profile _ _ _ words h.front
 some_word profile (AckValue packet) words h = some_command profile _ _ _ words h.front

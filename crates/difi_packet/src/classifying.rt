@@ -6,8 +6,8 @@ ghost use Rattle.vrt_header.specs.declared.header.Kind.TheVariants as variants;
 ghost use Rattle.difi_packet.specs.Packet.{PacketValue, IsPacket, IsClassified, kind_and_stream};
 
 use crate::kind::{PacketKind, kind_and_stream};
-use crate::packet::{decode, kind_in};
-use vrt_header::{Kind, Profile};
+use crate::packet::decode;
+use vrt_header::{Kind, Profile, kind_in};
 use vrt_words::Place;
 
 /// The bytes of a context packet. Where so many are there, no word behind has to be looked for.

@@ -1,8 +1,7 @@
-ghost use Rattle.std.specs.Prelude.{◌≡◌, ◌<◌, length, slice_index, IfOk, IfErr, IsOkAnd, IfSome, IfNone};
+ghost use Rattle.std.specs.Prelude.{◌≡◌, slice_index, IfOk, IfErr, IsOkAnd};
 ghost use Rattle.vrt_words.specs.Words.{words_of};
 ghost use Rattle.vrt_words.specs.Begins.{IsDatagram, IsRefused};
 ghost use Rattle.vrt_header.specs.Header.{IsKind};
-ghost use Rattle.vrt_header.specs.declared.header.Kind as kinds;
 ghost use Rattle.vrt_header.specs.declared.header.Kind.TheVariants as variants;
 ghost use Rattle.difi_packet.specs.Packet.{PacketValue, IsPacket, value_of, IsLentFrom};
 
@@ -11,8 +10,8 @@ use command_codec::{Cancel, Control, decode_cancel, decode_control};
 use difi_context::ContextRec;
 use difi_data::DataRec;
 use difi_version::VersionRec;
-use vrt_header::{Kind, Profile, kind_of};
-use vrt_words::{Place, word_at};
+use vrt_header::{Kind, Profile, kind_in};
+use vrt_words::Place;
 
 /// A packet of a stream, by its kind.
 #[derive(Clone, Copy, Debug, PartialEq, Eq)]
@@ -132,19 +131,5 @@ fn read_ack(profile: Profile, bytes: &[u8]) -> Result<Packet<'_>, Place>
     match decode_ack(profile, bytes) {
         Ok(packet) => Ok(Packet::Ack(packet)),
         Err(place) => Err(place),
-    }
-}
-
-/// The kind of packet, which the first word tells.
-#[inline]
-pub(crate) fn kind_in(bytes: &[u8]) -> Option<Kind>
-    ensures told { IfSome result (λ kind. (0 < length (words_of bytes.now))
-        × IsKind kind (slice_index (words_of bytes.now) 0)) }
-    ensures none { IfNone result ((kind : kinds.Kind)
-        → ¬ ((0 < length (words_of bytes.now)) × IsKind kind (slice_index (words_of bytes.now) 0))) }
-{
-    match word_at(bytes, 0) {
-        Some(word) => kind_of(word),
-        None => None,
     }
 }

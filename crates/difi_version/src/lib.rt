@@ -4,6 +4,8 @@
 //! and the indicator fields of ANSI/VITA 49.2-2017, and is no statement about them.
 #![tactic(auto)]
 
+#[cfg(test)]
+mod edges;
 mod round_trip;
 #[cfg(test)]
 mod tests;

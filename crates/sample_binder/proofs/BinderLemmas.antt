@@ -11,7 +11,7 @@ use Rattle.vrt_header.specs.Header.{is_size}
 use Rattle.vrt_header.specs.Prologue.{IsStamped}
 use Rattle.vrt_header.specs.declared.header.Kind.{Kind}
 use Rattle.vrt_header.specs.declared.header.Kind.TheVariants.{Data}
-use Rattle.difi_data.proofs.DataLaws.{seven_words, data_timed}
+use Rattle.vrt_header.proofs.KindLaws.{seven_words, timed_of_kind}
 use Rattle.difi_context.specs.declared.context.ContextRec.{ContextRec}
 use Rattle.context_timeline.specs.declared.timed_context.TimedContext.{TimedContext}
 use Rattle.context_timeline.specs.Line.{Line, line_of, horizon_of, stamp_in}
@@ -340,8 +340,8 @@ data_size profile bytes h =
     let d = h.datagram.packet in
     record {
       whole = h.datagram.whole;
-      least = omega (arith, d.size, size_least p.header.kind p.header.timed p.header.size d.prologue.header.size_allowed d.kind);
-      most = omega (arith, d.size, size_told p.header.kind p.header.timed p.header.size d.prologue.header.size_allowed d.kind);
+      least = omega (arith, d.size, size_least p.header.kind p.header.timed p.header.size d.prologue.prologue.header.size_allowed d.prologue.kind);
+      most = omega (arith, d.size, size_told p.header.kind p.header.timed p.header.size d.prologue.prologue.header.size_allowed d.prologue.kind);
     }
 
 stamped : (timed : Bool) (stamp : Option TimeStamp) (words : List ℕ) → IsStamped timed stamp words → timed ≡ true → fraction_of (get_or words 5 0) (get_or words 6 0) < 10 ^ 12
@@ -354,12 +354,12 @@ data_bytes profile bytes h =
     let words = words_of bytes in
     let p = h.packet.prologue in
     let d = h.datagram.packet in
-    let seven : length (take 7 words) ≡ 7 = seven_words profile p (take 7 words) d.prologue d.kind in
-    let timed = data_timed profile.tsi p.header.kind p.header.timed (get_or (take 7 words) 0 0) d.prologue.header.time d.kind in
-    let fraction = stamped p.header.timed p.stamp (take 7 words) d.prologue.stamp timed in
+    let seven : length (take 7 words) ≡ 7 = seven_words profile Data p (take 7 words) refl d.prologue in
+    let timed = timed_of_kind profile Data p (take 7 words) refl d.prologue in
+    let fraction = stamped p.header.timed p.stamp (take 7 words) d.prologue.prologue.stamp timed in
     record {
       enough = omega (arith, length-take 7 words);
-      most = omega (arith, d.size, size_told p.header.kind p.header.timed p.header.size d.prologue.header.size_allowed d.kind);
+      most = omega (arith, d.size, size_told p.header.kind p.header.timed p.header.size d.prologue.prologue.header.size_allowed d.prologue.kind);
       fraction = omega (arith, get_or-take 7 words 5 0 (omega arith), get_or-take 7 words 6 0 (omega arith));
     }
 

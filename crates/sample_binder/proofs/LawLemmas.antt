@@ -9,7 +9,8 @@ use Rattle.vrt_time.specs.Time.{TimeStamp, stamp_of, fraction_of}
 use Rattle.vrt_header.specs.Profile.{PacketProfile}
 use Rattle.vrt_header.specs.Prologue.{IsStamped}
 use Rattle.difi_data.specs.Data.{DataPacket, IsData}
-use Rattle.difi_data.proofs.DataLaws.{seven_words, data_timed}
+use Rattle.vrt_header.proofs.KindLaws.{seven_words, timed_of_kind}
+use Rattle.vrt_header.specs.declared.header.Kind.TheVariants.{Data}
 use Rattle.difi_data.proofs.SpellingLaws.{payload_size}
 use Rattle.sample_binder.specs.declared.label.Label.{Label}
 use Rattle.vrt_fields.specs.declared.limits.Limits.{Limits}
@@ -185,16 +186,17 @@ read_told profile packet bytes h =
     let words = words_of bytes in
     let p = packet.prologue in
     let d = h.packet in
-    let seven : length (take 7 words) ≡ 7 = seven_words profile p (take 7 words) d.prologue d.kind in
-    let timed = data_timed profile.tsi p.header.kind p.header.timed (get_or (take 7 words) 0 0) d.prologue.header.time d.kind in
+    let front = d.prologue.prologue in
+    let seven : length (take 7 words) ≡ 7 = seven_words profile Data p (take 7 words) refl d.prologue in
+    let timed = timed_of_kind profile Data p (take 7 words) refl d.prologue in
     let word : (k : ℕ) → k < 7 → get_or (take 7 words) k 0 ≡ get_or words k 0 = λ k lt. get_or-take 7 words k 0 lt in
     let size = payload_size profile packet words d in
     record {
-      stamp = stamp_told p.header.timed p.stamp (take 7 words) d.prologue.stamp timed
+      stamp = stamp_told p.header.timed p.stamp (take 7 words) front.stamp timed
           ∙ ap (λ s. Some (stamp_of s (fraction_of (get_or (take 7 words) 5 0) (get_or (take 7 words) 6 0)))) (word 4 (omega arith))
           ∙ ap (λ f. Some (stamp_of (get_or words 4 0) (fraction_of f (get_or (take 7 words) 6 0)))) (word 5 (omega arith))
           ∙ ap (λ f. Some (stamp_of (get_or words 4 0) (fraction_of (get_or words 5 0) f))) (word 6 (omega arith));
-      count = d.prologue.header.count ∙ ap (λ w. bits w 16 4) (word 0 (omega arith));
+      count = front.header.count ∙ ap (λ w. bits w 16 4) (word 0 (omega arith));
       words = omega (arith, size.1, d.size);
-      pad = d.prologue.pad ∙ ap (λ w. bits w 27 5) (word 2 (omega arith));
+      pad = front.pad ∙ ap (λ w. bits w 27 5) (word 2 (omega arith));
     }

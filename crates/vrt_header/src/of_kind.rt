@@ -48,10 +48,10 @@ pub fn read_prologue_of(profile: Profile, kind: Kind, bytes: &[u8]) -> Result<Pr
 fn has_kind(kind: Kind, bytes: &[u8]) -> bool
     ensures { IsTrue result ↔ (0 < length (words_of bytes.now)) × IsKind kind (slice_index (words_of bytes.now) 0) }
 {
-    match word_at(bytes, 0) {
-        Some(word) => is_kind(kind, word),
-        None => false,
-    }
+    let Some(word) = word_at(bytes, 0) else {
+        return false;
+    };
+    is_kind(kind, word)
 }
 
 // Whether the word is the header of a packet of the kind.

@@ -1,5 +1,5 @@
 -- The bytes in front are those of the packet, and the bytes behind them stay.
-use Rattle.std.proofs.Common.{◌≡◌, ◌+◌, ◌-◌, ◌*◌, ◌++◌, ◌∙◌, ap, sym, subst, take, drop, length, length-drop, arith}
+use Rattle.std.proofs.Common.{◌≡◌, refl, ◌+◌, ◌-◌, ◌*◌, ◌++◌, ◌∙◌, ap, sym, subst, take, drop, length, length-drop, arith}
 use Rattle.std.proofs.lemmas.List.{length-take, drop-drop}
 use Rattle.std.proofs.lemmas.Slice.{take-put_mid, drop-put_mid}
 use borrow.Rule.Slice.PartMut.{put_mid}
@@ -7,7 +7,8 @@ use Rattle.vrt_words.specs.Words.{words_of}
 use Rattle.vrt_words.specs.Begins.{IsDatagram}
 use Rattle.vrt_words.proofs.WordLaws.{AreWords-take}
 use Rattle.difi_data.specs.Data.{IsData, packet_of}
-use Rattle.difi_data.proofs.DataLaws.{seven_words}
+use Rattle.vrt_header.specs.declared.header.Kind.TheVariants.{Data}
+use Rattle.vrt_header.proofs.KindLaws.{seven_words}
 use Rattle.vrt_words.proofs.WordLaws.{AreBytes-take}
 use Rattle.difi_data.proofs.SpellingLaws.{payload_size, row_datagram, one_datagram}
 use Rattle.difi_data.proofs.packet.encode.Goals as goal
@@ -15,7 +16,7 @@ use Rattle.difi_data.proofs.packet.encode.Goals as goal
 pub write_prologue-requires-clause-spelled : goal.write_prologue-requires-clause-spelled
 write_prologue-requires-clause-spelled c =
     let s = c.requires.spelled in
-    (take 7 s.0, AreWords-take 7 s.0 s.1, s.2.prologue)
+    (take 7 s.0, AreWords-take 7 s.0 s.1, s.2.prologue.prologue)
 
 pub slice_bounds-copy_from_slice-count : goal.slice_bounds-copy_from_slice-count
 slice_bounds-copy_from_slice-count c =
@@ -47,9 +48,9 @@ returns-clause-packet c =
     (omega (arith, size, c.from-size.ensures, c.write_prologue.auto.into))
     ∙ ap (λ xs. take 28 mid ++ xs) c.copy_from_slice.ensures.after in
     let seven : c.write_prologue.result ≡ 7 =
-    c.write_prologue.ensures.length ∙ sym s.2.prologue.all ∙ seven_words profile packet.prologue (take 7 s.0) s.2.prologue s.2.kind in
+    c.write_prologue.ensures.length ∙ sym s.2.prologue.prologue.all ∙ seven_words profile Data packet.prologue (take 7 s.0) refl s.2.prologue in
     let front : take 7 (words_of mid) ≡ take 7 s.0 =
-    ap (λ k. take k (words_of mid)) (sym seven) ∙ c.write_prologue.ensures.again (take 7 s.0) (AreWords-take 7 s.0 s.1) s.2.prologue in
+    ap (λ k. take k (words_of mid)) (sym seven) ∙ c.write_prologue.ensures.again (take 7 s.0) (AreWords-take 7 s.0 s.1) s.2.prologue.prologue in
     subst (IsDatagram (IsData profile) packet) (sym row) (row_datagram profile packet mid s.0 s.2 (omega (arith, size, c.write_prologue.auto.into)) front)
 
 pub returns-clause-again : goal.returns-clause-again
@@ -65,7 +66,7 @@ returns-clause-behind c =
     let mid = c.write_prologue.new.into in
     let size = payload_size c.args.profile (packet_of c.args.rec.now) s.0 s.2 in
     let seven : c.write_prologue.result ≡ 7 =
-    c.write_prologue.ensures.length ∙ sym s.2.prologue.all ∙ seven_words c.args.profile c.args.rec.now.prologue (take 7 s.0) s.2.prologue s.2.kind in
+    c.write_prologue.ensures.length ∙ sym s.2.prologue.prologue.all ∙ seven_words c.args.profile Data c.args.rec.now.prologue (take 7 s.0) refl s.2.prologue in
     let kept : drop 28 mid ≡ drop 28 c.args.into.now = subst (λ k. drop (4 * k) mid ≡ drop (4 * k) c.args.into.now) seven c.write_prologue.ensures.behind in
     let e : 28 + (n - 28) ≡ n = omega (arith, size, c.from-size.ensures) in
     drop-put_mid 28 (n - 28) mid c.copy_from_slice.new.self n (omega (arith, e)) (omega (arith, size, c.write_prologue.auto.into))
