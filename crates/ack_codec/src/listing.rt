@@ -4,9 +4,8 @@ ghost use Rattle.vrt_fields.specs.FieldSet.{bit_in, IsFieldMask, number_in_mask}
 ghost use Rattle.ack_codec.specs.Responses.{AreResponses, listed_words, word_if};
 ghost use Rattle.ack_codec.specs.Steps.{first_response};
 
-use crate::mask::{bit_under, field_at};
 use crate::responses::Responses;
-use vrt_fields::{Field, mask_number};
+use vrt_fields::{Field, bit_under, field_at, mask_number};
 use vrt_words::{put_words, read_words};
 
 /// The responses that the mask lists, in the words from `at` on: from the highest bit down.

@@ -1,6 +1,7 @@
 ghost use Rattle.std.specs.Prelude.{◌≤◌, length};
 
 use super::*;
+use cam_field::Ident;
 use vrt_fields::Field;
 use vrt_header::Profile;
 use vrt_words::put_words;
@@ -43,6 +44,33 @@ const LONGEST: [u32; 43] = [
     0x6C60002B, 1, 0x006A621E, 0, 0x6553F10A, 0, 0, 0xF00B0000, 5, 11, 12, 13, 14, 21, 22, 23, 24,
     0x7BB98000, 0x7BB98000, 101, 102, 103, 104, 105, 106, 107, 108, 109, 110, 111, 112, 201, 202,
     203, 204, 205, 206, 207, 208, 209, 210, 211, 212,
+];
+
+// Of a validation that lists no field, whose masks of warnings and errors are there.
+const EMPTY_MASKS: [u32; 11] = [
+    0x6C60000B, 1, 0x006A621E, 0, 0x6553F10A, 0, 0, 0x00130000, 9, 0, 0,
+];
+
+// The states of all twelve fields, of nobody, of a word and to a UUID: behind the message ID the
+// identities, CIF0 and the nineteen words.
+const WHOLE_STATE: [u32; 29] = [
+    0x6C60001D, 1, 0x006A621E, 0, 0x6553F10A, 0, 0, 0x00040000, 5, 0x7BB98000, 31, 32, 33, 34, 35,
+    36, 37, 38, 39, 40, 41, 42, 43, 44, 45, 46, 47, 48, 49,
+];
+
+const WHOLE_STATE_OF_WORDS: [u32; 31] = [
+    0x6C60001F, 1, 0x006A621E, 0, 0x6553F10A, 0, 0, 0xA0040000, 5, 11, 21, 0x7BB98000, 31, 32, 33,
+    34, 35, 36, 37, 38, 39, 40, 41, 42, 43, 44, 45, 46, 47, 48, 49,
+];
+
+const WHOLE_STATE_OF_UUIDS: [u32; 37] = [
+    0x6C600025, 1, 0x006A621E, 0, 0x6553F10A, 0, 0, 0xF0040000, 5, 11, 12, 13, 14, 21, 22, 23, 24,
+    0x7BB98000, 31, 32, 33, 34, 35, 36, 37, 38, 39, 40, 41, 42, 43, 44, 45, 46, 47, 48, 49,
+];
+
+const WHOLE_STATE_OF_BOTH: [u32; 34] = [
+    0x6C600022, 1, 0x006A621E, 0, 0x6553F10A, 0, 0, 0xE0040000, 5, 11, 12, 13, 14, 21, 0x7BB98000,
+    31, 32, 33, 34, 35, 36, 37, 38, 39, 40, 41, 42, 43, 44, 45, 46, 47, 48, 49,
 ];
 
 // What is written of the acknowledgement that is read.
@@ -99,6 +127,47 @@ fn each_kind_is_read_and_written_again(rt: HostRuntime) {
     assert!(rt; is_written_again(profile, &STATE));
     assert!(rt; is_written_again(profile, &BOTH));
     assert!(rt; is_written_again(profile, &LONGEST));
+}
+
+#[test]
+fn a_state_of_all_fields_is_read_and_written_again(rt: HostRuntime) {
+    let profile = Profile::of(0x6A_621E, 1).expect(&rt, "a profile");
+    assert!(rt; is_written_again(profile, &WHOLE_STATE));
+    assert!(rt; is_written_again(profile, &WHOLE_STATE_OF_WORDS));
+    assert!(rt; is_written_again(profile, &WHOLE_STATE_OF_UUIDS));
+    assert!(rt; is_written_again(profile, &WHOLE_STATE_OF_BOTH));
+}
+
+#[test]
+fn a_mask_may_name_no_field(rt: HostRuntime) {
+    let profile = Profile::of(0x6A_621E, 1).expect(&rt, "a profile");
+    assert!(rt; is_written_again(profile, &EMPTY_MASKS));
+    let Some(Ack::V(report)) = read(profile, &EMPTY_MASKS) else {
+        panic!(rt; "a validation");
+    };
+    let none = Responses {
+        cif0: 0,
+        words: [0; 12],
+    };
+    assert!(rt; report.warnings == Some(none));
+    assert!(rt; report.errors == Some(none));
+}
+
+#[test]
+fn a_state_of_all_fields_tells_each(rt: HostRuntime) {
+    let profile = Profile::of(0x6A_621E, 1).expect(&rt, "a profile");
+    let Some(Ack::S(state)) = read(profile, &WHOLE_STATE_OF_BOTH) else {
+        panic!(rt; "a state");
+    };
+    assert_eq!(rt; state.controllee, Ident::Uuid([11, 12, 13, 14]));
+    assert_eq!(rt; state.controller, Ident::Word(21));
+    assert_eq!(rt; state.fields.get(Field::ReferencePoint), Some(31));
+    assert_eq!(rt; state.fields.get(Field::Bandwidth), Some((32 << 32) + 33));
+    assert_eq!(rt; state.fields.get(Field::ReferenceLevel), Some(40));
+    assert_eq!(rt; state.fields.get(Field::Gain), Some(41));
+    assert_eq!(rt; state.fields.get(Field::SampleRate), Some((42 << 32) + 43));
+    assert_eq!(rt; state.fields.get(Field::State), Some(47));
+    assert_eq!(rt; state.fields.get(Field::Format), Some((48 << 32) + 49));
 }
 
 #[test]

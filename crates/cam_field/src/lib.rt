@@ -12,6 +12,6 @@ mod round_trip;
 mod tests;
 
 pub use crate::cam::Cam;
-pub use crate::ident::Ident;
+pub use crate::ident::{Ident, same_ident};
 pub use crate::modes::{Action, Role, Timing};
 pub use crate::round_trip::one_to_one;

@@ -101,3 +101,17 @@ fn what_a_role_forbids_is_no_word(rt: HostRuntime) {
     assert!(rt; Cam::read(Role::Ack, true, 0x0018_0000).is_none());
     assert!(rt; Cam::read(Role::Ack, true, 0x0005_0000).is_none());
 }
+
+#[test]
+fn identities_are_the_same_in_form_and_words(rt: HostRuntime) {
+    let uuid = Ident::Uuid([1, 2, 3, 4]);
+    assert!(rt; same_ident(&uuid, &Ident::Uuid([1, 2, 3, 4])));
+    assert!(rt; same_ident(&Ident::Word(1), &Ident::Word(1)));
+    assert!(rt; same_ident(&Ident::None, &Ident::None));
+    assert!(rt; !same_ident(&uuid, &Ident::Uuid([1, 2, 3, 5])));
+    assert!(rt; !same_ident(&uuid, &Ident::Uuid([2, 1, 3, 4])));
+    assert!(rt; !same_ident(&Ident::Word(1), &Ident::Word(2)));
+    assert!(rt; !same_ident(&Ident::Word(0), &Ident::None));
+    assert!(rt; !same_ident(&Ident::Word(1), &Ident::Uuid([1, 0, 0, 0])));
+    assert!(rt; !same_ident(&Ident::None, &Ident::Uuid([0; 4])));
+}

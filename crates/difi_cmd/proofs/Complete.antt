@@ -11,7 +11,8 @@ use Rattle.replay_form.proofs.RecordLaws.{record_wrong-append}
 use Rattle.difi_cmd.specs.declared.status.Status.{Status}
 use Rattle.difi_cmd.specs.declared.status.Status.TheVariants.{Done, Usage, ReadFault, WriteFault, Memory, BadRecord, TooLong}
 use Rattle.difi_cmd.specs.declared.words.Line.{Line}
-use Rattle.difi_cmd.specs.Outcome.{HasNoFault, HasFaultAt, IsBad, IsBadSoFar, IsLonger, IsWhole, IsVerdict, IsOutcome}
+use Rattle.difi_cmd.specs.Outcome.{IsBadSoFar, IsVerdict, IsOutcome}
+use Rattle.replay_form.specs.Verdict.{HasNoFault, HasFaultAt, IsBad, IsLonger, IsWhole}
 
 told_all : (bytes taken : List ℕ) (left : Option (List ℕ)) → Consumes (Some bytes) left taken → IsAtEnd left → taken ≡ bytes
 told_all bytes taken None p e = absurd p

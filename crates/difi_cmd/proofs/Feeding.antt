@@ -16,7 +16,7 @@ use Rattle.difi_texts.specs.declared.lines.Listing.{Listing}
 use Rattle.difi_cmd.specs.declared.report.Report.{Report}
 use Rattle.difi_texts.specs.Lines.{Account, entries}
 use Rattle.difi_cmd.specs.Text.{AreAccounts, IsPart}
-use Rattle.difi_cmd.specs.Outcome.{HasNoFault}
+use Rattle.replay_form.specs.Verdict.{HasNoFault}
 use Rattle.difi_cmd.specs.Progress.{IsSent, IsReporting}
 use Rattle.difi_cmd.specs.Steps.{IsWrongText, IsStanding, IsAlong, IsFed}
 

@@ -1,5 +1,6 @@
 pub mod TextLaws
 pub mod OneText
+pub mod OneStatus
 pub mod Texts
 pub mod Feeding
 pub mod Outcomes

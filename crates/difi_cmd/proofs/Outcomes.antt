@@ -15,7 +15,8 @@ use Rattle.difi_cmd.specs.declared.status.Status.{Status}
 use Rattle.difi_cmd.specs.declared.status.Status.TheVariants.{Done, Usage, ReadFault, WriteFault, Memory, BadRecord, TooLong}
 use Rattle.difi_texts.specs.Lines.{entries}
 use Rattle.difi_cmd.specs.Text.{IsPart}
-use Rattle.difi_cmd.specs.Outcome.{HasNoFault, HasFaultAt, Reads, TakesTooMany, IsOutcome}
+use Rattle.difi_cmd.specs.Outcome.{Reads, TakesTooMany, IsOutcome}
+use Rattle.replay_form.specs.Verdict.{HasNoFault, HasFaultAt}
 use Rattle.difi_cmd.specs.Progress.{IsSent}
 use Rattle.difi_cmd.specs.Steps.{IsStanding, IsCounted, IsAlong, IsTold, IsEnded}
 use Rattle.difi_cmd.proofs.Texts.{sent_whole}

@@ -2,37 +2,12 @@
 use Rattle.std.specs.Prelude.{◌≡◌, ℕ, ◌+◌, ◌<◌, ◌≤◌, ◌⊎◌, List, length, take, Option}
 use Rattle.std.specs.Io.KnownBytes.{Consumes, IsAtEnd, Appends}
 use Rattle.difi_io.specs.Faults.{Rose}
-use Rattle.replay_form.specs.HeadFields.{IsHeadPart}
-use Rattle.replay_form.specs.FrameFields.{Frame}
-use Rattle.replay_form.specs.Record.{IsRecord, IsRecordWrongAt, IsOpen, EndsInside}
-use Rattle.replay_form.specs.declared.record_head.RecordHead.{RecordHead}
+use Rattle.replay_form.specs.Record.{EndsInside}
+use Rattle.replay_form.specs.Verdict.{HasNoFault, HasFaultAt, IsBad, IsLonger, IsWhole}
 use Rattle.difi_cmd.specs.declared.status.Status.{Status}
 use Rattle.difi_cmd.specs.declared.status.Status.TheVariants.{Done, Usage, ReadFault, WriteFault, Memory, BadRecord, TooLong}
 use Rattle.difi_cmd.specs.declared.words.Line.{Line}
 use Rattle.difi_cmd.specs.Text.{IsPart, IsOutput}
-
--- no field of the bytes is wrong, as far as they go
-abbrev pub HasNoFault : List ℕ → Type 0
-HasNoFault bytes = IsHeadPart bytes ⊎ ((head : RecordHead) × ((frames : List Frame) × ((rest : List ℕ) × IsOpen head frames rest bytes)))
-
--- a field is wrong, and the first such begins at this offset
-abbrev pub HasFaultAt : List ℕ → ℕ → Type 0
-HasFaultAt bytes offset = (frames : List Frame) × IsRecordWrongAt frames bytes offset
-
--- Of the bytes the first `most` are judged. A field of these is wrong; or the bytes end inside the header or a frame
-abbrev pub IsBad : ℕ → List ℕ → ℕ → Type 0
-IsBad most bytes offset =
-    HasFaultAt (take most bytes) offset ⊎ ((length bytes ≤ most) × (EndsInside bytes × (offset ≡ length bytes)))
-
--- or there are more
-pub record IsLonger (most : ℕ) (bytes : List ℕ) : Type 0 where
-  pub more : most < length bytes
-  pub sound : HasNoFault (take most bytes)
-
--- or they are a record
-pub record IsWhole (most : ℕ) (bytes : List ℕ) : Type 0 where
-  pub within : length bytes ≤ most
-  pub whole : (head : RecordHead) × ((frames : List Frame) × IsRecord head frames bytes)
 
 -- the status that the bytes give where no read or write fails
 abbrev pub IsVerdict : ℕ → List ℕ → Status → Type 0

@@ -12,7 +12,7 @@ use Rattle.difi_cmd.specs.declared.status.Status.TheVariants.{Done, Usage, ReadF
 use Rattle.difi_texts.specs.Lines.{Account}
 use Rattle.replay_form.specs.Record.{EndsInside}
 use Rattle.difi_cmd.specs.Text.{IsPart, IsOutput}
-use Rattle.difi_cmd.specs.Outcome.{HasFaultAt}
+use Rattle.replay_form.specs.Verdict.{HasFaultAt}
 use Rattle.difi_cmd.specs.Progress.{IsSent, IsReporting}
 
 -- the reader stands for some bytes with these frames, and no field is wrong so far

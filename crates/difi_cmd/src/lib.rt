@@ -16,7 +16,7 @@ mod words;
 #[cfg(test)]
 mod words_tests;
 
-pub use crate::laws::bytes_have_one_text;
+pub use crate::laws::{bytes_have_one_status, bytes_have_one_text};
 pub use crate::run::difi_run;
 pub use crate::status::Status;
 pub use crate::words::words_ask_for_one_line;

@@ -5,24 +5,12 @@ use Rattle.vrt_header.specs.Profile.{PacketProfile}
 use Rattle.vrt_header.specs.Prologue.{IsPrologueOf}
 use Rattle.vrt_header.specs.declared.header.Kind.TheVariants.{Context}
 use Rattle.vrt_fields.specs.Format.{IsFormatFirst, IsFormatSecond}
-use Rattle.vrt_fields.specs.Field.{width_of, place_of}
-use Rattle.vrt_fields.specs.declared.field.Field.{Field}
+pub use Rattle.vrt_fields.specs.FieldWords.{IsRate, field_of}
 use Rattle.difi_context.specs.declared.context.ContextRec.{ContextRec}
-
--- a sample rate in two words: a signed number of 64 bits, in units of 2^-20 Hz, that is at least 1 Hz
-pub record IsRate (high low : ℕ) : Type 0 where
-  pub positive : high < 2 ^ 31
-  pub least : 2 ^ 20 ≤ high * 2 ^ 32 + low
 
 -- CIF0 without its change bit: the twelve fields, and no other
 abbrev pub fields_bits : ℕ
 fields_bits = 0x7BB98000
-
--- the value of a field among the words of all: one word, or two as one number
-abbrev pub field_of : List ℕ → Field → ℕ
-field_of fields field =
-    if width_of field == 1 then slice_index fields (place_of field)
-    else slice_index fields (place_of field) * 2 ^ 32 + slice_index fields (place_of field + 1)
 
 -- CIF0 with its change bit
 abbrev pub cif0_of : Bool → ℕ

@@ -1,11 +1,10 @@
 ghost use Rattle.std.specs.Prelude.{◌≡◌, ◌≤ℤ◌, ◌^◌, pos, slice_index, Some};
-ghost use Rattle.vrt_fields.specs.Field.{place_of};
 ghost use Rattle.vrt_fields.specs.Format.{IsFormat};
 ghost use Rattle.vrt_fields.specs.declared.field.Field.TheVariants.{SampleRate};
 ghost use Rattle.difi_context.specs.Context.{IsInGrammar, field_of};
 
 use crate::context::ContextRec;
-use vrt_fields::{Field, PayloadFormat};
+use vrt_fields::{FORMAT_WORD, Field, PayloadFormat, value_in};
 use vrt_time::Stamp;
 
 impl ContextRec {
@@ -13,12 +12,7 @@ impl ContextRec {
     pub fn field(&self, field: Field) -> u64
         ensures { result ≡ field_of self.now.fields field }
     {
-        let place = place(field);
-        let first = u64::from(self.fields[place]);
-        if field.width() == 1 {
-            return first;
-        }
-        (first << 32) + u64::from(self.fields[place + 1])
+        value_in(&self.fields, field)
     }
 
     /// The sample rate, in units of 2^-20 Hz. It is at least 1 Hz.
@@ -35,7 +29,7 @@ impl ContextRec {
         requires { IsInGrammar self.now }
         ensures { IsFormat result (slice_index self.now.fields 17) (slice_index self.now.fields 18) }
     {
-        match PayloadFormat::read(self.fields[17], self.fields[18]) {
+        match PayloadFormat::read(self.fields[FORMAT_WORD], self.fields[FORMAT_WORD + 1]) {
             Ok(format) => format,
             Err(_) => unreachable!(),
         }
@@ -50,25 +44,5 @@ impl ContextRec {
             Some(stamp) => stamp,
             None => unreachable!(),
         }
-    }
-}
-
-// Where a field begins among the words of all fields.
-fn place(field: Field) -> usize
-    ensures { result ≡ place_of field }
-{
-    match field {
-        Field::ReferencePoint => 0,
-        Field::Bandwidth => 1,
-        Field::IfReference => 3,
-        Field::RfReference => 5,
-        Field::IfOffset => 7,
-        Field::ReferenceLevel => 9,
-        Field::Gain => 10,
-        Field::SampleRate => 11,
-        Field::TimeAdjustment => 13,
-        Field::Calibration => 15,
-        Field::State => 16,
-        Field::Format => 17,
     }
 }

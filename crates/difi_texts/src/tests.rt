@@ -3,7 +3,8 @@ use super::*;
 use ack_codec::{Ack, AckReport, AckState, Responses};
 use cam_field::{Action, Cam, Ident, Timing};
 use command_codec::{Cancel, Control};
-use difi_packet::PacketKind;
+use difi_data::DataRec;
+use difi_packet::{Packet, PacketKind};
 use vrt_fields::{Field, FieldSet};
 use vrt_header::{Header, Kind, Prologue};
 use vrt_time::Stamp;
@@ -222,6 +223,37 @@ fn an_answer_to_a_query_is_shown_with_its_fields(rt: HostRuntime) -> Result<(), 
     let text =
         b"  time none\n  count 0\n  cam 00040000\n  message 00000003\n  controllee none\n  controller none\n  fields 00200000\n  sample rate 1 Hz + 0/1048576\n";
     assert_eq!(rt; out.as_slice(), text.as_slice());
+    Ok(())
+}
+
+#[test]
+fn a_data_packet_is_shown_with_its_pad(rt: HostRuntime) -> Result<(), NoMemory> {
+    let mut out = TextBuffer::open(rt.alloc())?;
+    let mut prologue = prologue_of(Kind::Data);
+    prologue.header.timed = true;
+    prologue.header.count = 7;
+    prologue.header.size = 9;
+    prologue.pad = 31;
+    prologue.stamp = Stamp::of_picos(1_700_000_000, 0);
+    let packet = DataRec {
+        prologue,
+        payload: &[1, 2, 3, 4, 5, 6, 7, 8],
+    };
+    push_under(rt.alloc(), &mut out, Listing::Show, &Packet::Data(packet));
+    let text = b"  time 1700000000 s 000000000000 ps\n  count 7\n  pad 31\n  payload words 2\n";
+    assert_eq!(rt; out.as_slice(), text.as_slice());
+    Ok(())
+}
+
+#[test]
+fn nothing_stands_under_a_line_of_check(rt: HostRuntime) -> Result<(), NoMemory> {
+    let mut out = TextBuffer::open(rt.alloc())?;
+    let packet = DataRec {
+        prologue: prologue_of(Kind::Data),
+        payload: &[1, 2, 3, 4],
+    };
+    push_under(rt.alloc(), &mut out, Listing::Check, &Packet::Data(packet));
+    assert!(rt; out.as_slice().is_empty());
     Ok(())
 }
 

@@ -8,6 +8,10 @@ use Rattle.sample_binder.specs.declared.reason.Reason.{Reason}
 use Rattle.sample_binder.specs.declared.reason.Reason.TheVariants.{BeforeFirst, ContextLost, PendingFull, TimelineFull, Ended, FormatChanged, Shape}
 use Rattle.sample_binder.specs.declared.run.Run.{Run}
 use Rattle.sample_binder.specs.declared.run.Run.TheVariants.{Bound, Uncertain, Raw}
+use Rattle.release_form.specs.Rules.{ObeysRefused}
+use Rattle.release_form.specs.Refusals.{refusal_number}
+use Rattle.release_form.specs.declared.refusal.Refusal.{Refusal as Why}
+use Rattle.release_form.specs.declared.refusal.Refusal.TheVariants.{TooLarge, Malformed, NoRoute, Late, Repeat, Conflict, NotAddressed, Reused, ScheduleFull, Answer}
 use Rattle.release_form.specs.Positions.{word}
 use Rattle.sample_binder.specs.Reasons.{number_of, detail_of}
 use Rattle.release_form.specs.Layout.{front_of, front_of_run, kind_of_run, IsLateStampAt}
@@ -33,6 +37,24 @@ one_late_stamp None None bytes reason i h g p q = refl
 one_late_stamp (Some a) (Some b) bytes reason i h g p q = ap Some (h.stamp_is ∙ sym g.stamp_is)
 one_late_stamp (Some a) None bytes reason i h g p q = absurd (let e = q.1 (p.0 refl) in cc)
 one_late_stamp None (Some b) bytes reason i h g p q = absurd (let e = p.1 (q.0 refl) in cc)
+
+-- a late packet alone has this number
+late_number : (refusal : Why) → refusal_number refusal ≡ 4 → refusal ≡ Late
+late_number TooLarge e = absurd (omega (arith, e))
+late_number Malformed e = absurd (omega (arith, e))
+late_number NoRoute e = absurd (omega (arith, e))
+late_number Late e = refl
+late_number Repeat e = absurd (omega (arith, e))
+late_number Conflict e = absurd (omega (arith, e))
+late_number NotAddressed e = absurd (omega (arith, e))
+late_number Reused e = absurd (omega (arith, e))
+late_number ScheduleFull e = absurd (omega (arith, e))
+late_number Answer e = absurd (omega (arith, e))
+
+-- which its reason shows
+late_reason : (frame reason : ℕ) (stamp : Option TimeStamp) → ObeysRefused frame reason stamp → IsSome stamp ↔ (reason ≡ 4)
+late_reason frame reason stamp o =
+    (λ some. o.reason_is ∙ ap refusal_number (o.late.0 some), λ e. o.late.1 (late_number o.refusal (sym o.reason_is ∙ e)))
 
 most_kind : (run : Run) → kind_of_run run ≤ 3
 most_kind (Bound stamp first number moment fields bits) = omega arith
@@ -116,8 +138,8 @@ one_value (Refused n p r d s) (Refused n' p' r' d' s') part other bytes h g =
     let x = h.positions in
     let y = g.positions in
     let same : r ≡ r' = x.reason_is ∙ sym y.reason_is in
-    let late : IsSome s' ↔ (r ≡ 4) = subst (λ k. IsSome s' ↔ (k ≡ 4)) (sym same) g.obeys.late in
-    let stamp = one_late_stamp s s' bytes r 7 x.stamp_is y.stamp_is h.obeys.late late in
+    let late : IsSome s' ↔ (r ≡ 4) = subst (λ k. IsSome s' ↔ (k ≡ 4)) (sym same) (late_reason n' r' s' g.obeys) in
+    let stamp = one_late_stamp s s' bytes r 7 x.stamp_is y.stamp_is (late_reason n r s h.obeys) late in
     cc (stamp, x.frame_is, x.port_is.port_is, x.reason_is, x.detail_is, y.frame_is, y.port_is.port_is, y.reason_is, y.detail_is)
 one_value (Version p) (Version q) part other bytes h g = ap Version (h.positions.port_is ∙ sym g.positions.port_is)
 one_value (End c) (End d) part other bytes h g = ap End (h.positions ∙ sym g.positions)

@@ -10,6 +10,9 @@ use Rattle.release_form.specs.Positions.{word, double, quadruple, stamp_at}
 use Rattle.sample_binder.specs.RunRules.{AreFields}
 use Rattle.release_form.specs.Rules.{ObeysRefused}
 use Rattle.sample_binder.specs.Reasons.{IsReason, number_of}
+use Rattle.release_form.specs.Refusals.{refusal_number}
+use Rattle.release_form.specs.declared.refusal.Refusal.{Refusal}
+use Rattle.release_form.specs.declared.refusal.Refusal.TheVariants.{Late}
 use Rattle.release_form.specs.Layout.{IsLaidOut, IsLateStampAt, IsPortAt, IsStampAt}
 use Rattle.release_form.specs.Release.{IsRelease}
 use Rattle.release_form.specs.Steps.{IsReadAs, IsSource, IsSpan}
@@ -136,6 +139,13 @@ reads_raw stream port lost reason stamp pad bytes kind size source why at p othe
   whole = omega (arith, length-drop 44 bytes);
   part_length = record { some = omega (arith, length-drop 44 bytes); whole = omega (arith, length-drop 44 bytes) };
 }
+
+-- a frame is refused with a stamp, or without one
+pub late_obeys : (frame reason : ℕ) (refusal : Refusal) (stamp : TimeStamp) → 1 ≤ frame → reason ≡ refusal_number refusal → refusal ≡ Late → ObeysRefused frame reason (Some stamp)
+late_obeys frame reason refusal stamp counted number late = record { counted = counted; refusal = refusal; reason_is = number; late = (λ some. late, λ e. refl) }
+
+pub other_obeys : (frame reason : ℕ) (refusal : Refusal) → 1 ≤ frame → reason ≡ refusal_number refusal → ¬ (refusal ≡ Late) → ObeysRefused frame reason None
+other_obeys frame reason refusal counted number other = record { counted = counted; refusal = refusal; reason_is = number; late = (λ some. absurd (cc), λ e. absurd (other e)) }
 
 -- a refused frame
 pub reads_refused : (frame port reason detail : ℕ) (stamp : Option TimeStamp) (bytes : List ℕ)

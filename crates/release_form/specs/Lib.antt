@@ -1,4 +1,5 @@
 pub mod Positions
+pub mod Refusals
 pub mod Rules
 pub mod Layout
 pub mod Sizes

@@ -2,8 +2,10 @@
 
 ghost use Rattle.std.specs.Prelude.{◌≤◌, length};
 
-use crate::tests::{ACK, END, HEALED, LATE, RAW, TOO_LARGE, UNCERTAIN, VERSION, is_read, stamp};
-use crate::{Shown, decode};
+use crate::tests::{
+    ACK, END, HEALED, LATE, RAW, TOO_LARGE, UNCERTAIN, VERSION, is_read, refused, stamp,
+};
+use crate::{Refusal, Shown, decode};
 use sample_binder::{Reason, Run};
 use std::process::Abort;
 use vrt_time::Moment;
@@ -295,18 +297,29 @@ fn the_greatest_pad_is_read(rt: HostRuntime) {
 }
 
 #[test]
-fn the_tenth_refusal_is_read(rt: HostRuntime) {
+fn the_ten_refusals_have_the_numbers_of_the_table(rt: HostRuntime) {
+    let table = [
+        (Refusal::TooLarge, 1),
+        (Refusal::Malformed, 2),
+        (Refusal::NoRoute, 3),
+        (Refusal::Late, 4),
+        (Refusal::Repeat, 5),
+        (Refusal::Conflict, 6),
+        (Refusal::NotAddressed, 7),
+        (Refusal::Reused, 8),
+        (Refusal::ScheduleFull, 9),
+        (Refusal::Answer, 10),
+    ];
+    for (refusal, number) in table {
+        assert!(rt; u32::from(refusal.number()) == number);
+        assert!(rt; Refusal::of_number(number) == Some(refusal));
+    }
+    assert!(rt; Refusal::of_number(0).is_none());
+    assert!(rt; Refusal::of_number(11).is_none());
     let mut words = TOO_LARGE;
     words[5] = 10;
     words[6] = 0;
-    let shown = Shown::Refused {
-        frame: 1,
-        port: 5,
-        reason: 10,
-        detail: 0,
-        stamp: None,
-    };
-    is_read(&rt, &words, &shown, &[]);
+    is_read(&rt, &words, &refused(Refusal::Answer, 0), &[]);
 }
 
 #[test]

@@ -10,6 +10,7 @@ mod fields;
 mod front;
 mod positions;
 mod reading;
+mod refusal;
 mod round_trip;
 mod samples;
 mod shown;
@@ -19,6 +20,7 @@ mod tests;
 
 pub use crate::decoding::decode;
 pub use crate::encoding::encode;
+pub use crate::refusal::Refusal;
 pub use crate::round_trip::one_to_one;
 pub use crate::shown::Shown;
 pub use crate::size::size_of;

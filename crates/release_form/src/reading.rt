@@ -5,13 +5,11 @@ ghost use Rattle.release_form.specs.Steps.{IsReadAs, IsNoRecord, IsSource, IsSpa
 
 use crate::fields::{are_fields, is_captured};
 use crate::positions::{double_in, port_in, quadruple_in, stamp_in, word_in};
+use crate::refusal::Refusal;
 use crate::shown::Shown;
 use sample_binder::{Reason, Run};
 use vrt_time::{Moment, Stamp};
 use vrt_words::read_words;
-
-/// The reason of a refused packet that is late.
-const LATE: u8 = 4;
 
 /// What a record says whose length is that of all the bytes. `None` exactly where they are no record.
 pub(crate) fn read(bytes: &[u8]) -> Option<Shown>
@@ -161,13 +159,13 @@ fn read_refused(bytes: &[u8]) -> Option<Shown>
     }
     let frame = double_in(bytes, 2);
     let port = port_in(bytes, 4)?;
-    let reason = word_in(bytes, 5);
+    let refusal = Refusal::of_number(word_in(bytes, 5))?;
     let detail = word_in(bytes, 6);
-    if frame == 0 || reason == 0 || reason > 10 {
+    if frame == 0 {
         return None;
     }
-    let reason = reason as u8;
-    if reason == LATE {
+    let reason = refusal.number();
+    if refusal.is_late() {
         let stamp = stamp_in(bytes, 7)?;
         return Some(Shown::Refused {
             frame,

@@ -27,7 +27,7 @@ pub enum Shown {
         frame: u64,
         /// The port of the frame.
         port: u16,
-        /// Why it is refused: 1 to 10.
+        /// Why it is refused: the number of a `Refusal`, 1 to 10.
         reason: u8,
         /// What shows the reason.
         detail: u32,

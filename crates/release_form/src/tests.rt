@@ -1,7 +1,10 @@
-ghost use Rattle.std.specs.Prelude.{◌≡◌, ◌*◌, ◌<◌, ◌≤◌, ◌^◌, length};
+ghost use Rattle.std.specs.Prelude.{◌≡◌, ◌≢◌, ◌*◌, ◌<◌, ◌≤◌, ◌^◌, None, Some, length};
 ghost use Rattle.vrt_time.specs.Time.{stamp_of};
+ghost use Rattle.release_form.specs.Refusals.{refusal_number};
 ghost use Rattle.release_form.specs.Rules.{Obeys};
 ghost use Rattle.release_form.specs.Sizes.{GoesWith, size_with};
+ghost use Rattle.release_form.specs.declared.refusal.Refusal.TheVariants.{Late};
+ghost use Rattle.release_form.specs.declared.shown.Shown.TheVariants.{Refused};
 
 use super::*;
 use sample_binder::{Reason, Run};
@@ -460,46 +463,51 @@ fn four_bit_samples_are_written_with_sixteen(rt: HostRuntime) {
     is_written(&rt, &shown, &[0x7F80_0000], &words);
 }
 
+// The first frame of a record, refused for another reason than that it is late.
+pub(crate) fn refused(refusal: Refusal, detail: u32) -> Shown
+    requires { refusal ≢ Late }
+    ensures refused { result ≡ Refused 1 5 (refusal_number refusal) detail None }
+    ensures obeys { Obeys result }
+{
+    Shown::Refused {
+        frame: 1,
+        port: 5,
+        reason: refusal.number(),
+        detail,
+        stamp: None,
+    }
+}
+
 #[test]
 fn refused_frames_go_both_ways(rt: HostRuntime) {
-    let large = Shown::Refused {
-        frame: 1,
-        port: 5,
-        reason: 1,
-        detail: 1601,
-        stamp: None,
-    };
+    let large = refused(Refusal::TooLarge, 1601);
     is_written(&rt, &large, &[], &TOO_LARGE);
     is_read(&rt, &TOO_LARGE, &large, &[]);
-    let malformed = Shown::Refused {
-        frame: 1,
-        port: 5,
-        reason: 2,
-        detail: 6,
-        stamp: None,
-    };
+    let malformed = refused(Refusal::Malformed, 6);
     is_written(&rt, &malformed, &[], &[5, 0x20, 0, 1, 5, 2, 6, 0, 0, 0]);
     is_read(&rt, &[5, 0x20, 0, 1, 5, 2, 6, 0, 0, 0], &malformed, &[]);
-    let command = Shown::Refused {
-        frame: 1,
-        port: 5,
-        reason: 2,
-        detail: 0,
-        stamp: None,
-    };
+    let command = refused(Refusal::Malformed, 0);
     is_written(&rt, &command, &[], &[5, 0x20, 0, 1, 5, 2, 0, 0, 0, 0]);
     is_read(&rt, &[5, 0x20, 0, 1, 5, 2, 0, 0, 0, 0], &command, &[]);
 }
 
-#[test]
-fn a_late_packet_is_told_with_a_stamp(rt: HostRuntime) {
-    let late = Shown::Refused {
+// The fourth frame of a record, refused since it is late.
+fn late(last: Stamp) -> Shown
+    ensures refused { result ≡ Refused 4 5 4 0 (Some last) }
+    ensures obeys { Obeys result }
+{
+    Shown::Refused {
         frame: 4,
         port: 5,
-        reason: 4,
+        reason: Refusal::Late.number(),
         detail: 0,
-        stamp: Some(stamp(0x6553_F101, 0)),
-    };
+        stamp: Some(last),
+    }
+}
+
+#[test]
+fn a_late_packet_is_told_with_a_stamp(rt: HostRuntime) {
+    let late = late(stamp(0x6553_F101, 0));
     is_written(&rt, &late, &[], &LATE);
     is_read(&rt, &LATE, &late, &[]);
     is_none_with(&rt, &LATE, 5, 3);

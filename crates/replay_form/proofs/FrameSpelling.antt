@@ -10,8 +10,13 @@ use Rattle.vrt_words.specs.Words.{AreBytes}
 use Rattle.replay_form.specs.Numbers.{number_at}
 use Rattle.replay_form.proofs.NumberLaws.{number_at-take}
 use Rattle.replay_form.specs.FrameFields.{Frame, IsFrame, AreFrameRight, frame_in}
-use Rattle.replay_form.specs.FrameSpelling.{IsFrameHead, frame_bytes}
+use Rattle.replay_form.specs.FrameSpelling.{IsFrameHead}
 use Rattle.replay_form.proofs.Putting.{number_here, number_next, number_fits}
+
+-- the numbers one after another, and the datagram
+abbrev pub frame_bytes : Frame → List ℕ
+frame_bytes frame =
+    big_bytes 4 frame.stamp.seconds ++ (big_bytes 8 frame.stamp.picos ++ (big_bytes 2 frame.port ++ (big_bytes 2 0 ++ (big_bytes 4 (length frame.datagram) ++ frame.datagram))))
 
 frame_of : TimeStamp → ℕ → List ℕ → Frame
 frame_of stamp port datagram = record { stamp = stamp; port = port; datagram = datagram }

@@ -5,7 +5,9 @@ pub mod FrameLaws
 pub mod PrefixLaws
 pub mod RecordLaws
 pub mod ReadingLaws
+pub mod OneHead
 pub mod VerdictLaws
+pub mod WithinLaws
 pub mod Fields
 pub mod Taking
 pub mod TakingFrames

@@ -2,9 +2,9 @@
 use Rattle.std.proofs.Common.{◌≡◌, ℕ, ◌+◌, ◌<◌, ◌≤◌, ◌⊎◌, inl, inr, Bool, true, false, List, [], ◌∷◌, ◌++◌, length, take, Option, Some, None, refl, sym, ap, ◌∙◌, subst, length-append, take_all, arith}
 use Rattle.replay_form.specs.HeadFields.{IsHeadWrongAt, IsHeadPart}
 use Rattle.replay_form.specs.FrameFields.{Frame, IsFrame, IsFramePart, IsFrameWrongAt, frame_in}
-use Rattle.replay_form.specs.Record.{first_stamp, last_stamp, IsCut, IsRecord, IsRecordWrongAt, EndsInside}
+use Rattle.replay_form.specs.Record.{first_stamp, last_stamp, IsCut, IsRecordWrongAt, EndsInside}
 use Rattle.replay_form.proofs.RecordLaws.{cut-append, cut-frame, cut-head, nothing_open, record_wrong-append, last_stamp-snoc}
-use Rattle.replay_form.specs.Reading.{Reading, begun, IsBeginning, IsGoing, StandsWith, StandsFor, IsMore, IsHeadRead, IsFrameRead, IsStep, IsFailed, IsFresh, IsFinished, IsUnfinished, held_frame, frames_after}
+use Rattle.replay_form.specs.Reading.{Reading, begun, IsBeginning, IsGoing, StandsWith, StandsFor, IsMore, IsHeadRead, IsFrameRead, IsStep, IsFailed, IsFresh, IsUnfinished, held_frame, frames_after}
 use Rattle.replay_form.specs.declared.event.Event.{Event}
 use Rattle.replay_form.specs.declared.event.Event.TheVariants as events
 use Rattle.replay_form.specs.declared.event.RecordFault.{RecordFault}

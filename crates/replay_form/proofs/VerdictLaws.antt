@@ -3,6 +3,8 @@ use Rattle.std.proofs.Common.{◌≡◌, ℕ, ◌<◌, ◌≤◌, inl, inr, List
 use Rattle.std.proofs.lemmas.Bool.{cases_order}
 use Rattle.std.proofs.lemmas.List.{take_at, drop_at}
 use Rattle.vrt_time.specs.Time.{TimeStamp}
+use Rattle.replay_form.specs.Head.{IsHead}
+use Rattle.replay_form.proofs.OneHead.{one_head}
 use Rattle.replay_form.specs.HeadFields.{AreRight, IsWholeHead, IsHeadPart, IsHeadWrongAt, is_second, field_at, field_count, head_size, end_of, offset_of}
 use Rattle.replay_form.specs.FrameFields.{Frame, IsFramePart, IsFrameWrongAt, IsWholeFrame, frame_in, frame_end, frame_field, frame_offset, frame_size}
 use Rattle.replay_form.proofs.NumberLaws.{number_at-append}
@@ -136,9 +138,14 @@ cut_not_part h fs r bytes cut part = head_not_part cut.header (cut.body ++ r) cu
 cut_not_wrong : (h : RecordHead) (fs : List Frame) (r bytes : List ℕ) (offset : ℕ) → IsCut h fs r bytes → IsHeadWrongAt bytes offset → ⊥
 cut_not_wrong h fs r bytes offset cut wrong = head_not_wrong cut.header (cut.body ++ r) offset cut.says.whole (subst (λ xs. IsHeadWrongAt xs offset) cut.whole wrong)
 
--- a record has one list of frames,
-pub one_record : (h i : RecordHead) (fs gs : List Frame) (bytes : List ℕ) → IsRecord h fs bytes → IsRecord i gs bytes → fs ≡ gs
-one_record h i fs gs bytes p q = (cut_one h i fs gs [] [] bytes p q (nothing_rests _) (nothing_rests _)).0
+cut_one_head : (h i : RecordHead) (fs gs : List Frame) (r s bytes : List ℕ) → IsCut h fs r bytes → IsCut i gs s bytes → h ≡ i
+cut_one_head h i fs gs r s bytes p q =
+    let same = head_front p.header q.header (p.body ++ r) (q.body ++ s) p.says.whole q.says.whole (sym p.whole ∙ q.whole) in
+    one_head h i q.header (subst (IsHead h) same.0 p.says) q.says
+
+-- a record has one header and one list of frames,
+pub one_record : (h i : RecordHead) (fs gs : List Frame) (bytes : List ℕ) → IsRecord h fs bytes → IsRecord i gs bytes → (h ≡ i) × (fs ≡ gs)
+one_record h i fs gs bytes p q = (cut_one_head h i fs gs [] [] bytes p q, (cut_one h i fs gs [] [] bytes p q (nothing_rests _) (nothing_rests _)).0)
 
 -- is wrong nowhere, and ends nowhere inside;
 pub record_not_wrong : (h : RecordHead) (fs gs : List Frame) (bytes : List ℕ) (offset : ℕ) → IsRecord h fs bytes → IsRecordWrongAt gs bytes offset → ⊥

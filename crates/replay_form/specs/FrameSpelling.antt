@@ -1,10 +1,8 @@
 -- The bytes of a frame.
-use Rattle.std.specs.Prelude.{◌≡◌, ℕ, ◌≤◌, List, ◌++◌, length}
-use Rattle.byteorder.specs.Endian.{big_bytes}
+use Rattle.std.specs.Prelude.{◌≡◌, ℕ, ◌≤◌, List, length}
 use Rattle.vrt_time.specs.Time.{TimeStamp}
 use Rattle.vrt_words.specs.Words.{AreBytes}
 use Rattle.replay_form.specs.Numbers.{number_at}
-use Rattle.replay_form.specs.FrameFields.{Frame}
 
 -- bytes that begin with these numbers
 pub record IsFrameHead (stamp : TimeStamp) (port size : ℕ) (bytes : List ℕ) : Type 0 where
@@ -15,8 +13,3 @@ pub record IsFrameHead (stamp : TimeStamp) (port size : ℕ) (bytes : List ℕ) 
   pub port_told : port ≡ number_at 12 2 bytes
   pub zero : 0 ≡ number_at 14 2 bytes
   pub size_told : size ≡ number_at 16 4 bytes
-
--- the numbers one after another, and the datagram
-abbrev pub frame_bytes : Frame → List ℕ
-frame_bytes frame =
-    big_bytes 4 frame.stamp.seconds ++ (big_bytes 8 frame.stamp.picos ++ (big_bytes 2 frame.port ++ (big_bytes 2 0 ++ (big_bytes 4 (length frame.datagram) ++ frame.datagram))))

@@ -9,3 +9,4 @@ pub mod FrameSpelling
 pub mod Taking
 pub mod Record
 pub mod Reading
+pub mod Verdict

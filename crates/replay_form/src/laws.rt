@@ -1,20 +1,32 @@
 ghost use Rattle.std.specs.Prelude.{◌≡◌, ◌↔◌, ℕ, List};
 ghost use Rattle.replay_form.specs.FrameFields.{Frame};
-ghost use Rattle.replay_form.specs.Head.{IsSpelledHead};
+ghost use Rattle.replay_form.specs.Head.{IsHead, IsSpelledHead};
 ghost use Rattle.replay_form.specs.HeadValues.{AreHeadValues};
 ghost use Rattle.replay_form.specs.Record.{IsRecord, IsRecordWrongAt, EndsInside};
+ghost use Rattle.replay_form.specs.Verdict.{IsBad, IsLonger, IsWhole};
 ghost use Rattle.replay_form.specs.declared.record_head.RecordHead.{RecordHead};
 
-/// Bytes have one verdict: they are a record with one list of frames, or wrong at one place, or they
-/// end inside the header or a frame.
+/// Bytes have one verdict: they are a record with one header and one list of frames, or wrong at one
+/// place, or they end inside the header or a frame.
 ///
 /// So what `RecordReader::finish` answers is the only answer there is.
 pub fn one_verdict()
-    ensures one_record { (h i : RecordHead) (fs gs : List Frame) (bytes : List ℕ) → IsRecord h fs bytes → IsRecord i gs bytes → fs ≡ gs }
+    ensures one_head { (h i : RecordHead) (bytes : List ℕ) → IsHead h bytes → IsHead i bytes → h ≡ i }
+    ensures one_record { (h i : RecordHead) (fs gs : List Frame) (bytes : List ℕ)
+        → IsRecord h fs bytes → IsRecord i gs bytes → (h ≡ i) × (fs ≡ gs) }
     ensures one_place { (fs gs : List Frame) (bytes : List ℕ) (a b : ℕ) → IsRecordWrongAt fs bytes a → IsRecordWrongAt gs bytes b → a ≡ b }
     ensures record_not_wrong { (h : RecordHead) (fs gs : List Frame) (bytes : List ℕ) (offset : ℕ) → IsRecord h fs bytes → ¬ IsRecordWrongAt gs bytes offset }
     ensures record_not_inside { (h : RecordHead) (fs : List Frame) (bytes : List ℕ) → IsRecord h fs bytes → ¬ EndsInside bytes }
     ensures wrong_not_inside { (gs : List Frame) (bytes : List ℕ) (offset : ℕ) → IsRecordWrongAt gs bytes offset → ¬ EndsInside bytes }
+{}
+
+/// Bytes of which the first `most` are judged have one verdict: a field of these is wrong or the bytes
+/// end inside the header or a frame, at one place; or there are more; or they are a record.
+pub fn one_verdict_within()
+    ensures one_place { (most : ℕ) (bytes : List ℕ) (a b : ℕ) → IsBad most bytes a → IsBad most bytes b → a ≡ b }
+    ensures bad_not_longer { (most : ℕ) (bytes : List ℕ) (offset : ℕ) → IsBad most bytes offset → ¬ IsLonger most bytes }
+    ensures bad_not_whole { (most : ℕ) (bytes : List ℕ) (offset : ℕ) → IsBad most bytes offset → ¬ IsWhole most bytes }
+    ensures longer_not_whole { (most : ℕ) (bytes : List ℕ) → IsLonger most bytes → ¬ IsWhole most bytes }
 {}
 
 /// The rules of a header's values are those of its bytes: a header obeys them exactly where some

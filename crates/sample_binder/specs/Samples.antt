@@ -1,18 +1,8 @@
 -- The samples of a packet whose first sample has a context: how many they are, and when each was captured.
 use Rattle.std.specs.Prelude.{ℕ, ◌-◌, ◌*◌, ◌/◌, ◌%◌, ◌==◌, ◌&&◌, nat_lt, if◌then◌else◌, List, slice_index, Option, Some, None}
 use Rattle.vrt_time.specs.Time.{capture_at}
-use Rattle.vrt_fields.specs.Format.{item_size}
-use Rattle.vrt_fields.specs.declared.field.Field.TheVariants.{SampleRate}
-use Rattle.difi_context.specs.Context.{field_of}
+pub use Rattle.vrt_fields.specs.FieldWords.{rate_in, size_in}
 use Rattle.sample_binder.specs.declared.shape.Shape.{Shape}
-
--- the raw sample rate among the words of a context's fields
-abbrev pub rate_in : List ℕ → ℕ
-rate_in fields = field_of fields SampleRate
-
--- the item size
-abbrev pub size_in : List ℕ → ℕ
-size_in fields = item_size (slice_index fields 17)
 
 -- the bits of a payload that are used
 abbrev pub used_bits : Shape → ℕ

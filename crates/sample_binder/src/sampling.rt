@@ -3,20 +3,20 @@ ghost use Rattle.sample_binder.specs.Samples.{rate_in, size_in, number_of};
 
 use crate::shape::Shape;
 use sample_unpack::count_of;
-use vrt_words::bits_of;
+use vrt_fields::{item_size_of, raw_rate};
 
 // The raw sample rate of a context, in units of 2^-20 Hz.
 pub(crate) fn rate_of(fields: &[u32; 19]) -> u64
     ensures { result ≡ rate_in fields.now }
 {
-    (u64::from(fields[11]) << 32) + u64::from(fields[12])
+    raw_rate(fields)
 }
 
 // The item size of a context, in bits.
 pub(crate) fn size_of(fields: &[u32; 19]) -> u8
     ensures { result ≡ size_in fields.now }
 {
-    bits_of(fields[17], 0, 6) as u8 + 1
+    item_size_of(fields)
 }
 
 // How many samples a packet has, where its payload divides by this item size.

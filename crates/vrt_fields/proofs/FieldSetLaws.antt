@@ -1,5 +1,5 @@
 -- Laws of field sets: CIF0 and the words determine a set, and a set CIF0 and its words.
-use Rattle.std.proofs.Common.{◌≡◌, ℕ, zero, suc, ◌+◌, ◌-◌, ◌*◌, ◌/◌, ◌%◌, ◌^◌, ◌<◌, ◌≤◌, List, [], ◌∷◌, ◌++◌, length, take, drop, sum_by, Option, Some, None, IfSome, refl, sym, ap, ◌∙◌, subst, lit<, arith, length-append, length-drop, take-add}
+use Rattle.std.proofs.Common.{◌≡◌, ℕ, zero, suc, ◌+◌, ◌-◌, ◌*◌, ◌/◌, ◌%◌, ◌^◌, ◌<◌, ◌≤◌, List, [], ◌∷◌, ◌++◌, length, take, drop, sum_by, get_or, Option, Some, None, IfSome, refl, sym, ap, ◌∙◌, subst, lit<, arith, length-append, length-drop, take-add}
 use Rattle.std.proofs.lemmas.List.Sums.{sum_by-cons}
 use Rattle.std.proofs.lemmas.List.{take_all}
 use Rattle.std.proofs.Math.Pow.{pow_mono, pow_pos}
@@ -351,6 +351,19 @@ pub mask_is_of_fields : (set : FieldValues) → IsFieldSet set → IsFieldMask (
 mask_is_of_fields set p = sym (mask_sum (mask_of set) 0 31 fields_in_order set falling_order (IsFieldSet-AllFit set p) (as_high set))
 
 -- and tells how many words they take
+-- the bit of each field in the mask says whether it is there
+bit_at : (n high bit : ℕ) (fields : List Field) (values : FieldValues) → Falling bit fields → AllFit fields values
+    → n ≡ high * 2 ^ bit + mask_with fields values → (i : ℕ) (d : Field) → i < length fields → bit_in n (get_or fields i d) ≡ flag (get_or values i None)
+bit_at n high bit [] values falling fit e i d h = absurd (omega arith)
+bit_at n high bit (field ∷ fields) [] falling fit e i d h = absurd fit
+bit_at n high bit (field ∷ fields) (value ∷ values) falling fit e zero d h = (peeled n high bit field fields value values falling e).here
+bit_at n high bit (field ∷ fields) (value ∷ values) falling fit e (suc i) d h =
+    let p = peeled n high bit field fields value values falling e in
+    bit_at n p.above (bit_of field) fields values falling.1 fit.1 p.rest i d (omega arith)
+
+pub mask_bit : (set : FieldValues) (i : ℕ) → IsFieldSet set → i < 12 → bit_in (mask_of set) (get_or fields_in_order i ReferencePoint) ≡ flag (get_or set i None)
+mask_bit set i p h = bit_at (mask_of set) 0 31 fields_in_order set falling_order (IsFieldSet-AllFit set p) (as_high set) i ReferencePoint h
+
 pub width_is_of_fields : (set : FieldValues) → IsFieldSet set → width_of_mask (mask_of set) ≡ length (words_of_set set)
 width_is_of_fields set p = width_sum (mask_of set) 0 31 fields_in_order set falling_order (IsFieldSet-AllFit set p) (as_high set)
 

@@ -1,4 +1,6 @@
 pub mod Field
+pub mod FieldWords
+pub mod Limit
 pub mod Limits
 pub mod Format
 pub mod FieldSet

@@ -29,9 +29,15 @@ signed_64 value = cast_signed w64 value
 abbrev pub signed_16 : ℕ → ℤ
 signed_16 half = cast_signed w16 half
 
--- a signed number in units of 2^-20 Hz: the whole hertz, rounded down, and the units that are left
+-- of a signed number in units of 2^-20 Hz the whole hertz, rounded down, and the units that are left
+abbrev pub whole_hertz : ℕ → ℤ
+whole_hertz value = int_shr (signed_64 value) 20
+
+abbrev pub units_left : ℕ → ℕ
+units_left value = value % 2 ^ 20
+
 abbrev pub hertz : ℕ → List ℕ
-hertz value = signed_decimal (int_shr (signed_64 value) 20) ++ codes " Hz + " ++ decimal (value % 2 ^ 20) ++ codes "/1048576"
+hertz value = signed_decimal (whole_hertz value) ++ codes " Hz + " ++ decimal (units_left value) ++ codes "/1048576"
 
 -- a level in the low half of a word, and what the high half holds
 abbrev pub level : ℕ → List ℕ

@@ -1,6 +1,7 @@
 ghost use Rattle.std.specs.Prelude.{◌≡◌, ◌<◌, ◌≤◌, ◌≢◌, IfSome, IfNone, Some};
 ghost use Rattle.vrt_fields.specs.declared.field.Field.{Field};
 ghost use Rattle.vrt_fields.specs.Field.{bit_of, width_of};
+ghost use Rattle.vrt_fields.specs.FieldSet.{index_of};
 
 /// A field of a context packet, of those that ANSI/VITA 49.2 lists under CIF0.
 ///
@@ -76,6 +77,28 @@ impl Field {
             | Field::SampleRate
             | Field::TimeAdjustment
             | Field::Format => 2,
+        }
+    }
+
+    /// The number of the field among all, 0 to 11, from the highest bit down.
+    #[inline]
+    pub fn number(self) -> usize
+        ensures number { result ≡ index_of self }
+        ensures within { result < 12 }
+    {
+        match self {
+            Field::ReferencePoint => 0,
+            Field::Bandwidth => 1,
+            Field::IfReference => 2,
+            Field::RfReference => 3,
+            Field::IfOffset => 4,
+            Field::ReferenceLevel => 5,
+            Field::Gain => 6,
+            Field::SampleRate => 7,
+            Field::TimeAdjustment => 8,
+            Field::Calibration => 9,
+            Field::State => 10,
+            Field::Format => 11,
         }
     }
 

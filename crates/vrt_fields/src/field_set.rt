@@ -1,10 +1,10 @@
-ghost use Rattle.std.specs.Prelude.{◌≡◌, ◌≢◌, ◌≤◌, ◌<◌, ◌+◌, ◌*◌, ◌^◌, ◌++◌, ◌↔◌, length, take, drop, sum_by, IfSome, IsTrue, Some, None};
+ghost use Rattle.std.specs.Prelude.{◌≡◌, ◌≢◌, ◌≤◌, ◌<◌, ◌+◌, ◌*◌, ◌^◌, ◌++◌, ◌↔◌, length, take, drop, sum_by, IfSome, IsTrue, Some, None, slice_set};
 ghost use Rattle.vrt_words.specs.Words.{words_of};
 ghost use Rattle.vrt_fields.specs.Field.{width_of};
-ghost use Rattle.vrt_fields.specs.FieldSet.{FieldValues, IsFieldSet, FitsField, value_of, no_fields, mask_of, words_of_set, IsFieldMask, width_of_mask};
+ghost use Rattle.vrt_fields.specs.FieldSet.{FieldValues, IsFieldSet, FitsField, index_of, value_of, no_fields, mask_of, words_of_set, IsFieldMask, width_of_mask};
 
 use crate::field::Field;
-use crate::values::{index, mask, mask_width, spell, take_values};
+use crate::values::{mask, mask_width, spell, take_values};
 use std::marker::Model;
 use vrt_words::{put_words, read_words};
 
@@ -46,24 +46,26 @@ impl FieldSet {
         ensures value { result ≡ value_of self.now field }
         ensures fits { IfSome result (FitsField field) }
     {
-        self.values[index(field)]
+        self.values[field.number()]
     }
 
     /// Puts a field into the set with this value, in place of an earlier one. All others stay.
     pub fn set(&mut self, field: Field, value: u64)
         requires { width_of field ≡ 1 → value < 2 ^ 32 }
+        ensures list { self.new ≡ slice_set self.old (index_of field) (Some value) }
         ensures there { value_of self.new field ≡ Some value }
         ensures others { (other : Field) → other ≢ field → value_of self.new other ≡ value_of self.old other }
     {
-        self.values[index(field)] = Some(value);
+        self.values[field.number()] = Some(value);
     }
 
     /// Takes a field out of the set. All others stay.
     pub fn remove(&mut self, field: Field)
+        ensures list { self.new ≡ slice_set self.old (index_of field) None }
         ensures gone { value_of self.new field ≡ None }
         ensures others { (other : Field) → other ≢ field → value_of self.new other ≡ value_of self.old other }
     {
-        self.values[index(field)] = None;
+        self.values[field.number()] = None;
     }
 
     /// CIF0 that names the fields of the set.

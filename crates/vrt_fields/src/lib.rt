@@ -5,10 +5,14 @@
 mod digits;
 mod field;
 mod field_set;
+mod field_words;
 mod format;
 #[cfg(test)]
 mod format_tests;
+mod laws;
 mod limit;
+#[cfg(test)]
+mod limit_tests;
 mod limits;
 mod round_trip;
 mod route;
@@ -16,6 +20,8 @@ mod route;
 mod tests;
 mod text;
 mod values;
+#[cfg(test)]
+mod words_tests;
 
 pub use crate::digits::{
     fill_decimal, hexadecimal_of, push_decimal, push_hexadecimal, push_padded, push_signed,
@@ -23,10 +29,16 @@ pub use crate::digits::{
 };
 pub use crate::field::Field;
 pub use crate::field_set::FieldSet;
+pub use crate::field_words::{
+    FORMAT_WORD, RATE_WORD, is_rate, item_size_of, rate_of, raw_rate, value_in,
+};
 pub use crate::format::PayloadFormat;
+pub use crate::laws::{
+    a_bit_for_each_field, fields_stand_apart, one_set_for_values, whole_hertz_and_rest,
+};
 pub use crate::limit::Limit;
 pub use crate::limits::Limits;
 pub use crate::round_trip::{one_set_for_words, written_and_read};
 pub use crate::route::Route;
 pub use crate::text::text_of;
-pub use crate::values::{is_field_mask, mask_number, mask_width};
+pub use crate::values::{bit_under, field_at, is_field_mask, mask_number, mask_width};

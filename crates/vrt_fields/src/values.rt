@@ -7,30 +7,8 @@ ghost use Rattle.vrt_fields.specs.Values.{number_in, first_value, taken};
 use crate::field::Field;
 use vrt_words::bits_of;
 
-/// The number of a field among all, from the highest bit down.
-#[inline]
-pub(crate) fn index(field: Field) -> usize
-    ensures number { result ≡ index_of field }
-    ensures within { result < 12 }
-{
-    match field {
-        Field::ReferencePoint => 0,
-        Field::Bandwidth => 1,
-        Field::IfReference => 2,
-        Field::RfReference => 3,
-        Field::IfOffset => 4,
-        Field::ReferenceLevel => 5,
-        Field::Gain => 6,
-        Field::SampleRate => 7,
-        Field::TimeAdjustment => 8,
-        Field::Calibration => 9,
-        Field::State => 10,
-        Field::Format => 11,
-    }
-}
-
-// The field with this number.
-fn field_at(index: usize) -> Field
+/// The field with this number among all, from the highest bit down.
+pub fn field_at(index: usize) -> Field
     requires { index < 12 }
     ensures { result ≡ slice_index_or fields_in_order index ReferencePoint }
 {
@@ -79,13 +57,13 @@ pub fn is_field_mask(cif0: u32) -> bool
 {
     let mut named = 0;
     for index in 0..12 {
-        named += bit_under(cif0, field_at(index));
+        named += masked_bit(cif0, field_at(index));
     }
     named == cif0
 }
 
 // The bit of a field, where `cif0` has it.
-fn bit_under(cif0: u32, field: Field) -> u32
+fn masked_bit(cif0: u32, field: Field) -> u32
     ensures number { result ≡ bit_in cif0 field * 2 ^ bit_of field }
     ensures most { result ≤ 2 ^ bit_of field }
 {
@@ -111,13 +89,13 @@ pub fn mask_number(cif0: u32) -> usize
 {
     let mut number = 0;
     for index in 0..12 {
-        number += count_under(cif0, field_at(index));
+        number += bit_under(cif0, field_at(index));
     }
     number
 }
 
-// 1 where `cif0` has the bit of a field, else 0.
-fn count_under(cif0: u32, field: Field) -> usize
+/// 1 where `cif0` has the bit of a field, else 0.
+pub fn bit_under(cif0: u32, field: Field) -> usize
     ensures number { result ≡ bit_in cif0 field }
     ensures most { result ≤ 1 }
 {

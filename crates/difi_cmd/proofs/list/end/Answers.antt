@@ -3,7 +3,7 @@ use Rattle.difi_texts.specs.Lines.{entries, summary}
 use Rattle.difi_cmd.proofs.Texts.{sent_whole}
 use Rattle.difi_cmd.proofs.Feeding.{part_so_far}
 use Rattle.replay_form.specs.Record.{EndsInside}
-use Rattle.difi_cmd.specs.Outcome.{HasFaultAt}
+use Rattle.replay_form.specs.Verdict.{HasFaultAt}
 use Rattle.difi_cmd.proofs.list.end.Goals as goal
 
 pub returns-in-Ok-finish : goal.returns-in-Ok-finish

@@ -16,8 +16,7 @@ loop-count-init g c = record {
 
 pub returns-in-Err : goal.returns-in-Err
 returns-in-Err g c =
-    let inv = c.loop-count.invariant in
-    (
+    let inv = c.loop-count.invariant in (
       Rose-later _ _ _ (omega (arith, inv.source_kept)) (c.in-Err.ensures.cause.failed refl),
       (
         writes_kept c.args.line c.loop-count.reader c.loop-count.report c.loop-count.left _ _ _ _ _ _ inv.at,

@@ -1,6 +1,10 @@
 -- The laws of the definitions.
 use Rattle.replay_form.proofs.VerdictLaws as laws
+use Rattle.replay_form.proofs.OneHead.{one_head}
 use Rattle.replay_form.proofs.laws.one_verdict.Goals as goal
+
+pub returns-clause-one_head : goal.returns-clause-one_head
+returns-clause-one_head c = one_head
 
 pub returns-clause-one_record : goal.returns-clause-one_record
 returns-clause-one_record c = laws.one_record
