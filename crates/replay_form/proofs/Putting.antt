@@ -5,7 +5,7 @@ use Rattle.std.proofs.Common.{◌≡◌, ℕ, zero, suc, ◌+◌, ◌-◌, ◌*�
 use Rattle.std.proofs.Math.Nat.{mod-lt, mul-le-mul_right, add-mul, mod-eq_of_lt}
 use Rattle.std.proofs.lemmas.Bool.{cases_order}
 use Rattle.std.proofs.lemmas.Grind.{common_steps}
-use Rattle.std.proofs.lemmas.List.{get_or-drop, drop_all, drop_at, drop-drop, length-drop, length-take-le, take_at, take_rest, nil_from_length}
+use Rattle.std.proofs.lemmas.List.{drop_all, drop_at, drop-drop, length-drop, length-take-le, take_at, take_rest, nil_from_length}
 use Rattle.std.specs.Int.{bytes_high_first}
 use Rattle.byteorder.specs.Endian.{big_bytes, big_from}
 use Rattle.byteorder.specs.Numbers.{big_from-bytes, big_from-cons, big_from-take, big_from-lt, length-bytes_high_first}

@@ -11,7 +11,6 @@ use Rattle.vrt_header.specs.Prologue.{IsStamped}
 use Rattle.difi_data.specs.Data.{DataPacket, IsData}
 use Rattle.vrt_header.specs.declared.header.Kind.TheVariants.{Data}
 use Rattle.vrt_header.proofs.KindLaws.{seven_words, timed_of_kind}
-use Rattle.vrt_header.specs.declared.header.Kind.TheVariants.{Data}
 use Rattle.difi_data.proofs.SpellingLaws.{payload_size}
 use Rattle.sample_binder.specs.declared.label.Label.{Label}
 use Rattle.vrt_fields.specs.declared.limits.Limits.{Limits}
