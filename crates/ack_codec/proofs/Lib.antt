@@ -1,4 +1,5 @@
 pub mod ResponseLaws
+pub mod AnswerLaws
 pub mod ContentLaws
 pub mod GrowthLaws
 pub mod AckLaws

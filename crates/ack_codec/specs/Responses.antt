@@ -1,7 +1,7 @@
 -- Responses to fields: which fields of a command are listed, and a word for each of them.
-use Rattle.std.specs.Prelude.{◌≡◌, ℕ, ◌==◌, if◌then◌else◌, List, [], ◌∷◌, ◌++◌, length, slice_index}
+use Rattle.std.specs.Prelude.{◌≡◌, ℕ, ◌==◌, if◌then◌else◌, List, [], ◌∷◌, ◌++◌, length, map, slice_index, Option, Some, None}
 use Rattle.vrt_fields.specs.Field.{fields_in_order}
-use Rattle.vrt_fields.specs.FieldSet.{index_of, bit_in, IsFieldMask}
+use Rattle.vrt_fields.specs.FieldSet.{FieldValues, index_of, bit_in, mask_of, IsFieldMask}
 use Rattle.vrt_fields.specs.declared.field.Field.{Field}
 use Rattle.ack_codec.specs.declared.responses.Responses.{Responses}
 
@@ -24,3 +24,12 @@ pub record AreResponses (responses : Responses) : Type 0 where
   pub mask : IsFieldMask responses.cif0
   pub each : length responses.words ≡ 12
   pub unlisted : (field : Field) → bit_in responses.cif0 field ≡ 0 → slice_index responses.words (index_of field) ≡ 0
+
+-- what was answered to a field, and 0 where nothing was
+abbrev pub answered : Option ℕ → ℕ
+answered None = 0
+answered (Some word) = word
+
+-- the responses that one answer or None for each of the twelve fields makes
+abbrev pub responses_of : FieldValues → Responses
+responses_of answers = record { cif0 = mask_of answers; words = map answered answers }

@@ -15,5 +15,5 @@ mod tests;
 pub use crate::ack::{Ack, AckReport, AckState};
 pub use crate::reading::decode_ack;
 pub use crate::responses::Responses;
-pub use crate::round_trip::one_to_one;
+pub use crate::round_trip::{one_to_one, responses_of_answers};
 pub use crate::spelling::encode_ack;
