@@ -109,7 +109,7 @@ module _ (profile : PacketProfile) (all : List Call) where
       let contexts = contexts_of es in
       let kept_sound = every-drop IsSoundContext (length contexts - kept) contexts (contexts_sound profile all es sound) in
       let left = runs_left (length (payload_of bytes)) packet.shape (omega (arith, shape, size.least)) fits payload (line_after kept es) (has_ended es) kept_sound in
-      record { given = h.buf.given; lost = h.lost; some = left.some; runs = left.writable; few = left.few }
+      record { given = h.buf.given; size = size; lost = h.lost; some = left.some; runs = left.writable; few = left.few }
 
   each_whole : (kept : ℕ) (es : List Event) → AllByRecursion (IsSoundEvent profile all) es → (packets : List Pending) → AllByRecursion (IsSoundPacket profile all) packets
       → AllByRecursion (λ (packet : Pending). IsWhole all (part_of (line_after kept es) (open_reason (has_ended es)) packet)) packets

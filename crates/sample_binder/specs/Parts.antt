@@ -9,7 +9,7 @@ use Rattle.sample_binder.specs.declared.out.Out.TheVariants as out
 use Rattle.sample_binder.specs.declared.run.Run.{Run}
 use Rattle.sample_binder.specs.declared.run.Run.TheVariants as run
 use Rattle.sample_binder.specs.Calls.{Call, ContextCall, DataCall, EndCall}
-use Rattle.sample_binder.specs.Given.{IsDataOf}
+use Rattle.sample_binder.specs.Given.{IsDataOf, HasDataSize}
 use Rattle.sample_binder.specs.RunRules.{IsWritable}
 
 -- the packet of a call is one of its kind
@@ -68,10 +68,11 @@ payload_bytes (ContextCall rec ∷ calls) = payload_bytes calls
 payload_bytes (DataCall buf ∷ calls) = length (payload_of buf.bytes) + payload_bytes calls
 payload_bytes (EndCall ∷ calls) = payload_bytes calls
 
--- one of the packets that were given leaves in runs, which can be written with its payload; they tell no more samples than
--- that has bytes
+-- one of the packets that were given, as long as one can be, leaves in runs, which can be written with its payload; they
+-- tell no more samples than that has bytes
 pub record IsWhole (calls : List Call) (part : Part) : Type 0 where
   pub given : IsGivenIn calls part.buf
+  pub size : HasDataSize part.buf.bytes
   pub lost : part.lost ≤ 15
   pub some : part.runs ≢ []
   pub runs : AllByRecursion (IsWritable (length (payload_of part.buf.bytes))) part.runs

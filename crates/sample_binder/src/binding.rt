@@ -104,7 +104,8 @@ impl Binding {
         ensures given { IfSome result (λ given. owed self.old ≡ given ∷ owed self.new) }
         ensures none { IfNone result (owed self.old ≡ []) }
         ensures same { IfNone result (self.new ≡ self.old) }
-        ensures kept { IfSome result (λ given. length self.new.queue + packets_in given ≡ length self.old.queue) }
+        ensures kept { IfSome result (λ given.
+            length self.new.queue + packets_in given ≡ length self.old.queue) }
         ensures line { self.new.line ≡ self.old.line }
         ensures limit { self.new.pending ≡ self.old.pending }
         ensures ended { self.new.ended ≡ self.old.ended }

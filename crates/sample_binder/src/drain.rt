@@ -98,7 +98,7 @@ fn drain_held(
     drain_data(packets, binding)
 }
 
-// The next event of the end: a context that is held, or else a data packet that is held, or else the end itself.
+// The next event of the end: one that is held, or else the end itself.
 fn drain_event(
     contexts: &mut Window<ContextRec>,
     packets: &mut Window<PacketBuf>,

@@ -48,7 +48,8 @@ pub(crate) fn give_packet(
     requires shapes { AreShapes queue.old.items }
     requires none { leaving.old ≡ None }
     ensures packet { IfSome result (λ given. GivesPacket pending timeline.now ended queue.old.items queue.new.items leaving.new given) }
-    ensures kept { IfSome result (λ given. length queue.new.items + packets_in given ≡ length queue.old.items) }
+    ensures kept { IfSome result (λ given.
+        length queue.new.items + packets_in given ≡ length queue.old.items) }
     ensures none { IfNone result (first_decided pending timeline.now ended queue.old.items ≡ None) }
     ensures same_queue { IfNone result (queue.new.items ≡ queue.old.items) }
     ensures same_leaving { IfNone result (leaving.new ≡ None) }

@@ -56,14 +56,16 @@ pub fn outputs_are_whole_packets()
         → AreWhole (calls ++ call ∷ []) (given_by limits calls call) }
 {}
 
-/// A law that a proof can cite. Outputs append: those of calls are what each of them adds, one after
-/// another. And more events add whole packets, each with its runs.
+/// A law that a proof can cite. Outputs append: those of calls are what each of them adds, one
+/// after another. And more events add whole packets, each with its runs.
 #[inline]
 pub fn outputs_append()
     ensures added { (limits : Limits) (calls : List Call) (call : Call)
-        → outputs_of limits (calls ++ call ∷ []) ≡ outputs_of limits calls ++ given_by limits calls call }
+        → outputs_of limits (calls ++ call ∷ [])
+        ≡ outputs_of limits calls ++ given_by limits calls call }
     ensures whole { (limits : Limits) (events later : List Event)
-        → (more : List Out) × (outputs limits (events ++ later) ≡ outputs limits events ++ more) × AreParts AnyPart more }
+        → (more : List Out) × (outputs limits (events ++ later) ≡ outputs limits events ++ more)
+        × AreParts AnyPart more }
 {}
 
 /// A law that a proof can cite. No more outputs were taken than there are.
@@ -73,14 +75,16 @@ pub fn taken_are_outputs()
         → taken ≤ length (outputs_of bound.limits calls) }
 {}
 
-/// A law that a proof can cite, for every list of arrivals. What a window has released stays so, and
-/// what more arrivals release comes behind it; so does, at the end, what was held.
+/// A law that a proof can cite, for every list of arrivals. What a window has released stays so,
+/// and what more arrivals release comes behind it; so does, at the end, what was held.
 #[inline]
 pub fn releases_only_grow<T>()
-    ensures arriving { (size : ℕ) (arrivals later : List (Entry T)) → releases size (arrivals ++ later) 0
-        ≡ releases size arrivals 0 ++ behind (releases size arrivals 0) (releases size (arrivals ++ later) 0) }
-    ensures ending { (size : ℕ) (arrivals : List (Entry T)) → all_releases size arrivals
-        ≡ releases size arrivals 0 ++ behind (releases size arrivals 0) (all_releases size arrivals) }
+    ensures arriving { (size : ℕ) (arrivals later : List (Entry T))
+        → releases size (arrivals ++ later) 0 ≡ releases size arrivals 0
+        ++ behind (releases size arrivals 0) (releases size (arrivals ++ later) 0) }
+    ensures ending { (size : ℕ) (arrivals : List (Entry T))
+        → all_releases size arrivals ≡ releases size arrivals 0
+        ++ behind (releases size arrivals 0) (all_releases size arrivals) }
 {}
 
 /// A law that a proof can cite. The events of one more call stand behind those of the calls before.
@@ -89,17 +93,22 @@ pub fn releases_only_grow<T>()
 #[inline]
 pub fn events_are_all_releases()
     ensures more { (limits : Limits) (calls : List Call) (call : Call)
-        → events_of limits (calls ++ call ∷ []) ≡ events_of limits calls ++ events_by limits calls call }
-    ensures arriving { (limits : Limits) (calls : List Call) → is_told calls ≡ false → AreReleases limits calls }
-    ensures ending { (limits : Limits) (calls : List Call) → is_told calls ≡ false → AreAllReleases limits calls }
+        → events_of limits (calls ++ call ∷ [])
+        ≡ events_of limits calls ++ events_by limits calls call }
+    ensures arriving { (limits : Limits) (calls : List Call) → is_told calls ≡ false
+        → AreReleases limits calls }
+    ensures ending { (limits : Limits) (calls : List Call) → is_told calls ≡ false
+        → AreAllReleases limits calls }
 {}
 
-/// A law that a proof can cite. The fields of a context in the grammar have a sample rate and an item
-/// size within their ranges, and a data packet is whole words, of which the payload has one at least.
+/// A law that a proof can cite. The fields of a context in the grammar have a sample rate and an
+/// item size within their ranges, and a data packet is whole words, of which the payload has one at
+/// least.
 #[inline]
 pub fn packets_are_sound()
     ensures sampling { (rec : ContextRec) → IsInGrammar rec → HasSampling rec.fields }
-    ensures size { (profile : PacketProfile) (bytes : List ℕ) → IsDataOf profile bytes → HasDataSize bytes }
+    ensures size { (profile : PacketProfile) (bytes : List ℕ) → IsDataOf profile bytes
+        → HasDataSize bytes }
 {}
 
 /// A law that a proof can cite. Where the packet of each call is one of its kind, a stream tells no

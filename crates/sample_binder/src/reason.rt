@@ -47,8 +47,8 @@ impl Reason {
         }
     }
 
-    /// The reason with this number and detail. `None` exactly where there is none: the numbers are 1 to
-    /// 7, and the detail of 2 is 1 to 15, that of the others 0.
+    /// The reason with this number and detail. `None` exactly where there is none: the numbers are
+    /// 1 to 7, and the detail of 2 is 1 to 15, that of the others 0.
     pub fn of(number: u32, detail: u32) -> Option<Reason>
         ensures found { IfSome result (λ reason. IsReason reason number detail) }
         ensures none { IfNone result ((reason : Reason) → ¬ IsReason reason number detail) }
