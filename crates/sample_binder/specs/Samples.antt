@@ -1,5 +1,5 @@
 -- The samples of a packet whose first sample has a context: how many they are, and when each was captured.
-use Rattle.std.specs.Prelude.{ℕ, ◌-◌, ◌*◌, ◌/◌, ◌%◌, ◌==◌, ◌&&◌, nat_lt, if◌then◌else◌, List, slice_index, Option, Some, None}
+use Rattle.std.specs.Prelude.{ℕ, ◌-◌, ◌*◌, ◌/◌, ◌%◌, ◌==◌, ◌&&◌, nat_lt, if◌then◌else◌, List, Option, Some, None}
 use Rattle.vrt_time.specs.Time.{capture_at}
 pub use Rattle.vrt_fields.specs.FieldWords.{rate_in, size_in}
 use Rattle.sample_binder.specs.declared.shape.Shape.{Shape}
