@@ -120,16 +120,25 @@ fn a_payload_format_has_two_words(rt: HostRuntime) {
     assert!(rt; is_edge(profile, 26, &[0], &[1, 0x80000000]));
 }
 
+// Whether each number may stand at each of these indices.
+fn are_free(profile: Profile, indices: &[usize]) -> bool {
+    for index in indices {
+        if !is_edge(profile, *index, &[0, 0xFFFFFFFF], &[]) {
+            return false;
+        }
+    }
+    true
+}
+
 #[test]
 fn all_other_fields_are_free(rt: HostRuntime) {
     let profile = Profile::of(0x6A_621E, 1).expect(&rt, "a profile");
-    let mut free = 0;
-    for index in [8, 9, 10, 11, 12, 13, 14, 15, 16, 17, 18, 21, 22, 23, 24] {
-        if is_edge(profile, index, &[0, 0xFFFFFFFF], &[]) {
-            free += 1;
-        }
-    }
-    assert_eq!(rt; free, 15);
+    assert!(rt;
+        are_free(
+            profile,
+            &[8, 9, 10, 11, 12, 13, 14, 15, 16, 17, 18, 21, 22, 23, 24]
+        )
+    );
 }
 
 #[test]

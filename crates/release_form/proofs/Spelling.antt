@@ -1,10 +1,10 @@
 -- A value with a payload or a packet has one record.
 use Rattle.std.proofs.Common.{◌≡◌, ℕ, zero, suc, ◌+◌, ◌*◌, ◌/◌, ◌%◌, ◌^◌, ◌≤◌, List, [], ◌∷◌, ◌++◌, map, length, take, drop, get_or, refl, sym, ap, ap₂, ◌∙◌, subst, Option, Some, None, take-append-drop, arith}
 use Rattle.std.specs.List.{range_with_len}
-use Rattle.std.proofs.lemmas.List.{length-take-le, drop_more, take_at, drop_at, get_or-drop}
+use Rattle.std.proofs.lemmas.List.{length-take-le, drop_more, take_at, drop_at}
 use Rattle.std.proofs.Math.Seq.{take-add}
 use Rattle.vrt_words.specs.Words.{words_of, AreBytes}
-use Rattle.vrt_words.proofs.WordLaws.{words_of-take, words_of-words, length-words_of, one_spelling, AreBytes-take}
+use Rattle.vrt_words.proofs.WordLaws.{words_of-take, words_of-words, length-words_of, one_spelling, AreBytes-take, AreBytes-drop}
 use Rattle.vrt_time.specs.Time.{TimeStamp}
 use Rattle.sample_unpack.specs.Bits.{bits_of, bits_of_bytes, number_of}
 use Rattle.sample_unpack.proofs.Bits.{number_of-bits_of, length-bits_of, bits_of_bytes-cons, length-bits_of_bytes}
@@ -198,9 +198,6 @@ one_part (Ack port) payload a b p q e f = e ∙ sym f
 one_part (Refused frame port reason detail stamp) payload a b p q e f = e ∙ sym f
 one_part (Version port) payload a b p q e f = e ∙ sym f
 one_part (End counts) payload a b p q e f = e ∙ sym f
-
-AreBytes-drop : (n : ℕ) (xs : List ℕ) → AreBytes xs → AreBytes (drop n xs)
-AreBytes-drop n xs p = λ i. omega (arith, get_or-drop n xs i 0, p (n + i))
 
 -- the front of whole words
 whole_front : (n : ℕ) (xs : List ℕ) → 4 * n ≤ length xs → length (take (4 * n) xs) ≡ 4 * length (words_of (take (4 * n) xs))

@@ -3,18 +3,8 @@ ghost use Rattle.release_form.specs.Positions.{word, double, quadruple};
 ghost use Rattle.release_form.specs.Layout.{IsPortAt, IsStampAt};
 
 use vrt_time::Stamp;
-use vrt_words::word_at;
 
-/// The word at a position that is there.
-pub(crate) fn word_in(bytes: &[u8], index: usize) -> u32
-    requires { 4 * index + 4 ≤ length bytes.now }
-    ensures { result ≡ word bytes.now index }
-{
-    match word_at(bytes, index) {
-        Some(word) => word,
-        None => unreachable!(),
-    }
-}
+pub(crate) use vrt_words::word_in;
 
 /// The number in two words, the high one first.
 pub(crate) fn double_in(bytes: &[u8], index: usize) -> u64

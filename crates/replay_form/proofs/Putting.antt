@@ -1,5 +1,5 @@
 -- A number that is written at its offset.
-use Rattle.vrt_words.proofs.WordLaws.{same_later}
+use Rattle.vrt_words.proofs.WordLaws.{same_later, AreBytes-drop}
 use borrow.Rule.Slice.PartMut.{put_mid}
 use Rattle.std.proofs.Common.{◌≡◌, ℕ, zero, suc, ◌+◌, ◌-◌, ◌*◌, ◌/◌, ◌<◌, ◌≤◌, ◌^◌, inl, inr, List, [], ◌∷◌, ◌++◌, length, take, drop, sym, ap, ◌∙◌, append_assoc, append-nil, length-append, take-add, arith}
 use Rattle.std.proofs.Math.Nat.{mod-lt, mul-le-mul_right, add-mul, mod-eq_of_lt}
@@ -54,9 +54,6 @@ bytes_fit (suc k) n (suc i) = bytes_fit k n i
 
 AreBytes-take : (n : ℕ) (xs : List ℕ) → AreBytes xs → AreBytes (take n xs)
 AreBytes-take n xs p i = grind (arith, common_steps, p i)
-
-AreBytes-drop : (n : ℕ) (xs : List ℕ) → AreBytes xs → AreBytes (drop n xs)
-AreBytes-drop n xs p i = let e = get_or-drop n xs i 0 in let k = p (n + i) in omega arith
 
 -- the bytes of a number that stands in some bytes
 pub bytes_there : (offset w n : ℕ) (bytes : List ℕ) → AreBytes bytes → offset + w ≤ length bytes → n ≡ number_at offset w bytes

@@ -5,7 +5,7 @@ ghost use Rattle.sample_binder.specs.Given.{IsDataBytes};
 
 use crate::shape::Shape;
 use vrt_time::Stamp;
-use vrt_words::{bits_of, word_at};
+use vrt_words::{bits_of, word_in};
 
 // The stamp of a data packet.
 pub(crate) fn stamp_of(bytes: &[u8]) -> Stamp
@@ -44,8 +44,5 @@ fn word(bytes: &[u8], index: usize) -> u32
     requires { index < length (words_of bytes.now) }
     ensures { result ≡ slice_index (words_of bytes.now) index }
 {
-    match word_at(bytes, index) {
-        Some(word) => word,
-        None => unreachable!(),
-    }
+    word_in(bytes, index)
 }
