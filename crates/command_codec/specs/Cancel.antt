@@ -1,5 +1,6 @@
 -- Cancellations, one line for each part of their words.
 use Rattle.std.specs.Prelude.{◌≡◌, ℕ, List, [], ◌∷◌, length, take, drop}
+use Rattle.vrt_words.specs.Words.{AreWords}
 use Rattle.vrt_header.specs.Profile.{PacketProfile}
 use Rattle.vrt_fields.specs.FieldSet.{IsFieldMask}
 use Rattle.cam_field.specs.declared.modes.Role.TheVariants as roles
@@ -24,3 +25,12 @@ pub record IsCancel (profile : PacketProfile) (packet : Cancel) (words : List �
   pub size : packet.prologue.header.size ≡ length words
   pub only : IsFieldMask packet.named
   pub content : drop (command_words (front_of packet)) words ≡ packet.named ∷ []
+
+-- these are the words of the cancellation
+pub record AreWordsOf (profile : PacketProfile) (packet : Cancel) (words : List ℕ) : Type 0 where
+  pub are_words : AreWords words
+  pub told : IsCancel profile packet words
+
+-- words can spell the cancellation
+abbrev pub IsSpelled : PacketProfile → Cancel → Type 0
+IsSpelled profile packet = (words : List ℕ) × AreWordsOf profile packet words

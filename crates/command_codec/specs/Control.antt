@@ -1,5 +1,6 @@
 -- Commands, one line for each part of their words.
 use Rattle.std.specs.Prelude.{◌≡◌, ◌≢◌, ℕ, List, [], ◌∷◌, length, take, drop, Option, Some, None}
+use Rattle.vrt_words.specs.Words.{AreWords}
 use Rattle.vrt_header.specs.Profile.{PacketProfile}
 use Rattle.vrt_fields.specs.FieldSet.{FieldValues, IsFieldSet, mask_of, words_of_set, IsFieldMask}
 use Rattle.cam_field.specs.declared.cam.Cam.{Cam}
@@ -42,3 +43,12 @@ pub record IsControl (profile : PacketProfile) (packet : Control) (words : List 
   -- the size counts all the words
   pub size : packet.prologue.header.size ≡ length words
   pub content : IsContent packet (drop (command_words (front_of packet)) words)
+
+-- these are the words of the command
+pub record AreWordsOf (profile : PacketProfile) (packet : Control) (words : List ℕ) : Type 0 where
+  pub are_words : AreWords words
+  pub told : IsControl profile packet words
+
+-- words can spell the command
+abbrev pub IsSpelled : PacketProfile → Control → Type 0
+IsSpelled profile packet = (words : List ℕ) × AreWordsOf profile packet words

@@ -1,4 +1,8 @@
+ghost use Rattle.std.specs.Prelude.{◌≡◌};
+ghost use Rattle.command_codec.specs.Cancel.{front_of};
+
 use cam_field::{Cam, Ident};
+use command_prologue::CommandPrologue;
 use vrt_header::Prologue;
 
 /// A cancellation of fields of a command that waits for its time.
@@ -15,4 +19,20 @@ pub struct Cancel {
     pub controller: Ident,
     /// CIF0: the bits of the fields to cancel.
     pub named: u32,
+}
+
+impl Cancel {
+    /// What stands in front of CIF0: the prologue, the mode word, the message identifier and the
+    /// identities.
+    pub fn front(&self) -> CommandPrologue
+        ensures { result ≡ front_of self.now }
+    {
+        CommandPrologue {
+            prologue: self.prologue,
+            cam: self.cam,
+            message: self.message,
+            controllee: self.controllee,
+            controller: self.controller,
+        }
+    }
 }

@@ -1,4 +1,8 @@
+ghost use Rattle.std.specs.Prelude.{◌≡◌};
+ghost use Rattle.command_codec.specs.Control.{front_of};
+
 use cam_field::{Cam, Ident};
+use command_prologue::CommandPrologue;
 use vrt_fields::FieldSet;
 use vrt_header::Prologue;
 
@@ -18,4 +22,20 @@ pub struct Control {
     pub asked: u32,
     /// Their values. None exactly for a query, which ends behind CIF0 and names a field there.
     pub fields: Option<FieldSet>,
+}
+
+impl Control {
+    /// What stands in front of CIF0: the prologue, the mode word, the message identifier and the
+    /// identities.
+    pub fn front(&self) -> CommandPrologue
+        ensures { result ≡ front_of self.now }
+    {
+        CommandPrologue {
+            prologue: self.prologue,
+            cam: self.cam,
+            message: self.message,
+            controllee: self.controllee,
+            controller: self.controller,
+        }
+    }
 }

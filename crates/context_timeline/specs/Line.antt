@@ -1,6 +1,6 @@
 -- The contexts of a stream, of which the last are kept.
 use Rattle.std.specs.Prelude.{◌≡◌, ℕ, ◌+◌, ◌<◌, ◌≤◌, min, List, [], ◌∷◌, ◌++◌, map, length, slice_index, Option, Some, None, option_map}
-use Rattle.circular_buffer.specs.Buffer.{keep_last, last_item}
+pub use Rattle.circular_buffer.specs.Buffer.{keep_last, last_item}
 use Rattle.vrt_time.specs.Time.{TimeStamp, stamp_of, moment_of}
 use Rattle.difi_context.specs.declared.context.ContextRec.{ContextRec}
 use Rattle.context_timeline.specs.declared.timed_context.TimedContext.{TimedContext}

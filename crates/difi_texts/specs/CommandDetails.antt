@@ -3,13 +3,17 @@ use Rattle.std.specs.Prelude.{ℕ, ◌^◌, ◌==◌, if◌then◌else◌, List,
 use Rattle.vrt_fields.specs.declared.field.Field.{Field}
 use Rattle.vrt_fields.specs.Field.{fields_in_order, bit_of}
 use Rattle.vrt_fields.specs.FieldSet.{FieldValues, value_of, mask_of, bit_in, index_of}
-use Rattle.vrt_fields.specs.Text.{hexadecimal, field_text}
+use Rattle.vrt_fields.specs.NumberText.{hexadecimal}
+use Rattle.vrt_fields.specs.Text.{field_text}
 use Rattle.cam_field.specs.Spelling.{word_of_cam}
 use Rattle.cam_field.specs.declared.ident.Ident.{Ident}
 use Rattle.cam_field.specs.declared.ident.Ident.TheVariants as idents
 use Rattle.command_prologue.specs.declared.prologue.CommandPrologue.{CommandPrologue}
+use Rattle.command_codec.specs.Control as control
+use Rattle.command_codec.specs.Cancel as cancel
 use Rattle.command_codec.specs.declared.control.Control.{Control}
 use Rattle.command_codec.specs.declared.cancel.Cancel.{Cancel}
+use Rattle.ack_codec.specs.Ack.{front_of_report, front_of_state}
 use Rattle.ack_codec.specs.declared.responses.Responses.{Responses}
 use Rattle.ack_codec.specs.declared.ack.AckReport.{AckReport}
 use Rattle.ack_codec.specs.declared.ack.AckState.{AckState}
@@ -58,29 +62,11 @@ abbrev pub content : Option FieldValues → List ℕ
 content None = indented (codes "query")
 content (Some set) = set_lines set
 
-abbrev pub front_of_control : Control → CommandPrologue
-front_of_control packet = record {
-  prologue = packet.prologue;
-  cam = packet.cam;
-  message = packet.message;
-  controllee = packet.controllee;
-  controller = packet.controller;
-}
-
 abbrev pub control_details : Control → List ℕ
-control_details packet = front_lines (front_of_control packet) ++ word_line (codes "fields ") packet.asked ++ content packet.fields
-
-abbrev pub front_of_cancel : Cancel → CommandPrologue
-front_of_cancel packet = record {
-  prologue = packet.prologue;
-  cam = packet.cam;
-  message = packet.message;
-  controllee = packet.controllee;
-  controller = packet.controller;
-}
+control_details packet = front_lines (control.front_of packet) ++ word_line (codes "fields ") packet.asked ++ content packet.fields
 
 abbrev pub cancel_details : Cancel → List ℕ
-cancel_details packet = front_lines (front_of_cancel packet) ++ word_line (codes "fields ") packet.named
+cancel_details packet = front_lines (cancel.front_of packet) ++ word_line (codes "fields ") packet.named
 
 -- the line of a field that CIF0 lists: its bit, and what its response says
 abbrev pub response_line : Responses → Field → List ℕ
@@ -94,27 +80,9 @@ abbrev pub response_lines : List ℕ → Option Responses → List ℕ
 response_lines name None = []
 response_lines name (Some responses) = word_line name responses.cif0 ++ flat_map (response_line responses) fields_in_order
 
-abbrev pub front_of_report : AckReport → CommandPrologue
-front_of_report report = record {
-  prologue = report.prologue;
-  cam = report.cam;
-  message = report.message;
-  controllee = report.controllee;
-  controller = report.controller;
-}
-
 abbrev pub report_details : AckReport → List ℕ
 report_details report =
     front_lines (front_of_report report) ++ response_lines (codes "warnings ") report.warnings ++ response_lines (codes "errors ") report.errors
-
-abbrev pub front_of_state : AckState → CommandPrologue
-front_of_state state = record {
-  prologue = state.prologue;
-  cam = state.cam;
-  message = state.message;
-  controllee = state.controllee;
-  controller = state.controller;
-}
 
 abbrev pub state_details : AckState → List ℕ
 state_details state = front_lines (front_of_state state) ++ word_line (codes "fields ") (mask_of state.fields) ++ set_lines state.fields

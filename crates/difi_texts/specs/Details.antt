@@ -4,7 +4,8 @@ use Rattle.std.specs.Fmt.{decimal}
 use Rattle.vrt_words.specs.Words.{words_of, bits}
 use Rattle.vrt_fields.specs.declared.field.Field.{Field}
 use Rattle.vrt_fields.specs.Field.{fields_in_order}
-use Rattle.vrt_fields.specs.Text.{hexadecimal, field_text}
+use Rattle.vrt_fields.specs.NumberText.{hexadecimal}
+use Rattle.vrt_fields.specs.Text.{field_text}
 use Rattle.difi_data.specs.Data.{DataPacket}
 use Rattle.difi_context.specs.Context.{field_of}
 use Rattle.difi_context.specs.declared.context.ContextRec.{ContextRec}

@@ -1,7 +1,7 @@
 -- What is judged of a datagram, and the lines that say it.
 use Rattle.std.specs.Prelude.{ℕ, suc, ◌-◌, Bool, true, false, List, [], ◌∷◌, ◌++◌, length, count_by, codes}
 use Rattle.std.specs.Fmt.{decimal}
-use Rattle.vrt_fields.specs.Text.{hexadecimal}
+use Rattle.vrt_fields.specs.NumberText.{hexadecimal}
 use Rattle.difi_packet.specs.declared.kind.PacketKind.{PacketKind}
 use Rattle.difi_packet.specs.declared.kind.PacketKind.TheVariants.{Data, Context, Version, Control, Cancel, AckV, AckX, AckS}
 use Rattle.difi_texts.specs.declared.lines.Judgement.{Judgement}

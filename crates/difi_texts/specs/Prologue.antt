@@ -3,7 +3,7 @@ use Rattle.std.specs.Prelude.{ℕ, List, ◌++◌, codes, Option, Some, None}
 use Rattle.std.specs.Fmt.{decimal}
 use Rattle.vrt_time.specs.Time.{TimeStamp}
 use Rattle.vrt_header.specs.declared.prologue.Prologue.{Prologue}
-use Rattle.vrt_fields.specs.Text.{padded_decimal}
+use Rattle.vrt_fields.specs.NumberText.{padded_decimal}
 
 -- a line under that of a frame
 abbrev pub indented : List ℕ → List ℕ

@@ -1,7 +1,7 @@
 ghost use Rattle.std.specs.Prelude.{◌≡◌, ◌≤◌, ◌+◌, ◌^◌, ◌++◌, length, flat_map, IfSome, codes};
 ghost use Rattle.vrt_fields.specs.Field.{bit_of, fields_in_order};
 ghost use Rattle.vrt_fields.specs.FieldSet.{FitsField, index_of};
-ghost use Rattle.vrt_fields.specs.Text.{hexadecimal};
+ghost use Rattle.vrt_fields.specs.NumberText.{hexadecimal};
 ghost use Rattle.cam_field.specs.Spelling.{word_of_cam};
 ghost use Rattle.difi_texts.specs.Prologue.{indented};
 ghost use Rattle.difi_texts.specs.CommandDetails.{word_line, spaced, identity, command_lines, front_lines};
@@ -25,14 +25,7 @@ pub(crate) fn push_control(alloc: Global, out: &mut TextBuffer, packet: &Control
     ensures text { out.new ≡ out.old ++ control_details packet.now }
     ensures length { length out.new ≤ length out.old + 1400 }
 {
-    let front = CommandPrologue {
-        prologue: packet.prologue,
-        cam: packet.cam,
-        message: packet.message,
-        controllee: packet.controllee,
-        controller: packet.controller,
-    };
-    push_front(out, &front);
+    push_front(out, &packet.front());
     push_word(out, b"fields ", packet.asked);
     push_content(alloc, out, &packet.fields);
 }
@@ -43,14 +36,7 @@ pub(crate) fn push_cancel(out: &mut TextBuffer, packet: &Cancel)
     ensures text { out.new ≡ out.old ++ cancel_details packet.now }
     ensures length { length out.new ≤ length out.old + 300 }
 {
-    let front = CommandPrologue {
-        prologue: packet.prologue,
-        cam: packet.cam,
-        message: packet.message,
-        controllee: packet.controllee,
-        controller: packet.controller,
-    };
-    push_front(out, &front);
+    push_front(out, &packet.front());
     push_word(out, b"fields ", packet.named);
 }
 

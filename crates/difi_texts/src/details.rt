@@ -1,7 +1,8 @@
 ghost use Rattle.std.specs.Prelude.{◌≡◌, ◌≤◌, ◌<◌, ◌+◌, ◌*◌, ◌^◌, ◌++◌, length, flat_map, codes};
 ghost use Rattle.std.specs.Fmt.{decimal};
 ghost use Rattle.vrt_fields.specs.Field.{width_of};
-ghost use Rattle.vrt_fields.specs.Text.{field_text, hexadecimal};
+ghost use Rattle.vrt_fields.specs.NumberText.{hexadecimal};
+ghost use Rattle.vrt_fields.specs.Text.{field_text};
 ghost use Rattle.difi_context.specs.Context.{field_of};
 ghost use Rattle.vrt_words.specs.Words.{words_of, bits};
 ghost use Rattle.difi_data.specs.Data.{packet_of};

@@ -1,7 +1,8 @@
 ghost use Rattle.std.specs.Prelude.{◌≡◌, ◌≤◌, ◌<◌, ◌+◌, ◌++◌, ◌^◌, ◌↔◌, [], ◌∷◌, length, IsTrue, IfOk};
 ghost use Rattle.std.specs.Fmt.{decimal};
 ghost use Rattle.vrt_fields.specs.Field.{width_of};
-ghost use Rattle.vrt_fields.specs.Text.{field_text, hexadecimal, padded_decimal};
+ghost use Rattle.vrt_fields.specs.NumberText.{hexadecimal, padded_decimal};
+ghost use Rattle.vrt_fields.specs.Text.{field_text};
 
 use std::alloc::Global;
 use std::marker::Model;

@@ -1,5 +1,5 @@
 -- The definitions in other words.
-use Rattle.std.proofs.Common.{◌≡◌, ◌↔◌, ◌⊎◌, ℕ, suc, zero, ◌+◌, ◌-◌, ◌<◌, ◌≤◌, ◌==◌, ◌&&◌, not, nat_le, nat_lt, Bool, true, false, List, length, take, get_or, Option, Some, None, refl, sym, ap, ◌∙◌, subst, inl, inr, arith}
+use Rattle.std.proofs.Common.{◌≡◌, ◌↔◌, ◌⊎◌, ℕ, suc, zero, ◌+◌, ◌-◌, ◌<◌, ◌≤◌, ◌&&◌, not, nat_le, nat_lt, Bool, true, false, List, length, take, get_or, Option, Some, None, refl, sym, ap, ◌∙◌, subst, inl, inr, arith}
 use Rattle.std.proofs.lemmas.Bool.Decides.{nat_tests}
 use Rattle.std.proofs.lemmas.Bool.{cases_lt}
 use Rattle.std.proofs.lemmas.List.{get_or-take}
@@ -18,9 +18,10 @@ use Rattle.sample_binder.specs.Due.{first_below, first_from, may_leave, has_case
 use Rattle.sample_binder.specs.Events.{Event}
 use Rattle.sample_binder.proofs.FirstLaws.{IsFirst, first_below-first, first_below-is, first_below-none_passes}
 use Rattle.sample_binder.specs.Readings.{IsSince, IsDueEvent, IsLongest, AreStretches, IsRead}
-use Rattle.sample_binder.specs.Runs.{same_label, label_number, label_detail, starts, or_all, next_start, cut_from, cut}
+use Rattle.sample_binder.specs.Runs.{same_label, starts, or_all, next_start, cut_from, cut}
 use Rattle.sample_binder.specs.Stretches.{IsStretch}
-use Rattle.sample_binder.proofs.RunLemmas.{same_as, cut_first}
+use Rattle.sample_binder.proofs.LabelLemmas.{same_as, same_self}
+use Rattle.sample_binder.proofs.RunLemmas.{cut_first}
 
 -- ---- due events
 
@@ -79,12 +80,6 @@ pub due_told : (limits : Limits) (events : List Event) (j e : ℕ) → (due limi
 due_told limits events j e = (due_is limits events j e, is_due limits events j e)
 
 -- ---- stretches
-
-same_self : (a : Label) → same_label a a ≡ true
-same_self a = equal (label_number a) (label_detail a)
-  where
-    equal : (m n : ℕ) → (m == m && n == n) ≡ true
-    equal m n = grind (arith, nat_tests)
 
 no_turn : (b : Bool) → not b ≡ false → b ≡ true
 no_turn true e = refl

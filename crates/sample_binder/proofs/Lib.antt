@@ -19,3 +19,6 @@ pub mod MarkLemmas
 pub mod WritableLemmas
 pub mod EventLemmas
 pub mod PartLemmas
+pub mod GrowLemmas
+pub mod LabelLemmas
+pub mod TotalLemmas

@@ -22,7 +22,7 @@ use Rattle.sample_binder.proofs.MarkLemmas.{IsSoundContext}
 use Rattle.sample_binder.proofs.PrefixLaws.{outputs-prefix, one_more_owes}
 use Rattle.sample_binder.proofs.WritableLemmas.{runs_left}
 
-abbrev part_of : Line → Reason → Pending → Part
+abbrev pub part_of : Line → Reason → Pending → Part
 part_of line why packet = record { buf = packet.buf; lost = packet.lost; runs = runs_of line why packet.shape }
 
 -- ---- packets one after another
@@ -98,7 +98,7 @@ later_packets limits events later =
 -- ---- packets that were given
 
 module _ (profile : PacketProfile) (all : List Call) where
-  part_whole : (kept : ℕ) (es : List Event) → AllByRecursion (IsSoundEvent profile all) es → (packet : Pending) → IsSoundPacket profile all packet
+  pub part_whole : (kept : ℕ) (es : List Event) → AllByRecursion (IsSoundEvent profile all) es → (packet : Pending) → IsSoundPacket profile all packet
       → IsWhole all (part_of (line_after kept es) (open_reason (has_ended es)) packet)
   part_whole kept es sound packet h =
       let bytes = packet.buf.bytes in

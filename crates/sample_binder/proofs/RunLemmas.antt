@@ -1,5 +1,5 @@
 -- A stretch that is told is the first of those that are left.
-use Rattle.std.proofs.Common.{◌≡◌, ℕ, suc, zero, ◌+◌, ◌-◌, ◌<◌, ◌≤◌, ◌==◌, ◌&&◌, not, nat_lt, Bool, true, false, cond, ◌∷◌, map, Some, None, IfSome, refl, sym, ap, ◌∙◌, inl, inr, arith}
+use Rattle.std.proofs.Common.{◌≡◌, ℕ, suc, zero, ◌+◌, ◌-◌, ◌<◌, ◌≤◌, ◌&&◌, not, nat_lt, Bool, true, false, cond, ◌∷◌, map, Some, None, IfSome, refl, sym, ap, ◌∙◌, inl, inr, arith}
 use Rattle.std.proofs.lemmas.Bool.Decides.{nat_tests}
 use Rattle.std.proofs.lemmas.Bool.{cases_lt}
 use Rattle.context_timeline.specs.Line.{Line}
@@ -7,22 +7,12 @@ use Rattle.sample_binder.specs.declared.label.Label.{Label}
 use Rattle.sample_binder.specs.declared.leaving.Leaving.TheVariants as leaving
 use Rattle.sample_binder.specs.declared.reason.Reason.{Reason}
 use Rattle.sample_binder.specs.declared.sampled.Sampled.{Sampled}
-use Rattle.sample_binder.specs.Runs.{same_label, label_number, label_detail, label_at, starts, or_all, next_start, cut_from, run_at}
+use Rattle.sample_binder.specs.Runs.{same_label, label_at, starts, or_all, next_start, cut_from, run_at}
+use Rattle.sample_binder.proofs.LabelLemmas.{same_as}
 use Rattle.sample_binder.specs.Left.{runs_left, runs_left_of, rest_from, IsLeaving}
 use Rattle.sample_binder.specs.Sound.{HasSampling}
 use Rattle.sample_binder.specs.Stretches.{IsStretch}
 use Rattle.sample_binder.proofs.FirstLaws.{first_below-is, first_below-none}
-
--- ---- labels
-
-same_pair : (a b c d : ℕ) → (a == b && c == d) ≡ true → (a ≡ b) × (c ≡ d)
-same_pair a b c d e = grind (arith, nat_tests)
-
--- one that is the same as another is so to the same others
-pub same_as : (a b c : Label) → same_label a b ≡ true → same_label a c ≡ same_label b c
-same_as a b c e =
-    let p = same_pair (label_number a) (label_number b) (label_detail a) (label_detail b) e in
-    ap (λ n. n == label_number c && label_detail a == label_detail c) p.0 ∙ ap (λ d. label_number b == label_number c && d == label_detail c) p.1
 
 module _ (labels : ℕ → Label) (number first : ℕ) (label : Label) (end : ℕ) (h : IsStretch labels number first label end) where
   -- none starts behind the first and in front of the end

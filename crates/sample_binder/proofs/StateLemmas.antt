@@ -28,19 +28,19 @@ use Rattle.sample_binder.specs.Runs.{cut_from, starts, label_at, run_at, runs_of
 
 -- ---- events at the end of a list
 
-contexts_of-append : (xs ys : List Event) → contexts_of (xs ++ ys) ≡ contexts_of xs ++ contexts_of ys
+pub contexts_of-append : (xs ys : List Event) → contexts_of (xs ++ ys) ≡ contexts_of xs ++ contexts_of ys
 contexts_of-append [] ys = refl
 contexts_of-append (ContextEvent context ∷ xs) ys = ap (λ cs. context ∷ cs) (contexts_of-append xs ys)
 contexts_of-append (DataEvent packet ∷ xs) ys = contexts_of-append xs ys
 contexts_of-append (EndEvent ∷ xs) ys = contexts_of-append xs ys
 
-packets_of-append : (xs ys : List Event) → packets_of (xs ++ ys) ≡ packets_of xs ++ packets_of ys
+pub packets_of-append : (xs ys : List Event) → packets_of (xs ++ ys) ≡ packets_of xs ++ packets_of ys
 packets_of-append [] ys = refl
 packets_of-append (ContextEvent context ∷ xs) ys = packets_of-append xs ys
 packets_of-append (DataEvent packet ∷ xs) ys = ap (λ ps. packet ∷ ps) (packets_of-append xs ys)
 packets_of-append (EndEvent ∷ xs) ys = packets_of-append xs ys
 
-has_ended-append : (xs ys : List Event) → has_ended (xs ++ ys) ≡ (has_ended xs || has_ended ys)
+pub has_ended-append : (xs ys : List Event) → has_ended (xs ++ ys) ≡ (has_ended xs || has_ended ys)
 has_ended-append [] ys = refl
 has_ended-append (ContextEvent context ∷ xs) ys = has_ended-append xs ys
 has_ended-append (DataEvent packet ∷ xs) ys = has_ended-append xs ys

@@ -55,6 +55,19 @@ abbrev pub samples_in : List Run → ℕ
 samples_in [] = 0
 samples_in (run ∷ runs) = samples_of run + samples_in runs
 
+-- and how many outputs tell
+abbrev pub samples_told : List Out → ℕ
+samples_told [] = 0
+samples_told (out.Packet buf lost ∷ outs) = samples_told outs
+samples_told (out.Run run ∷ outs) = samples_of run + samples_told outs
+
+-- how many bytes the payloads have that calls give
+abbrev pub payload_bytes : List Call → ℕ
+payload_bytes [] = 0
+payload_bytes (ContextCall rec ∷ calls) = payload_bytes calls
+payload_bytes (DataCall buf ∷ calls) = length (payload_of buf.bytes) + payload_bytes calls
+payload_bytes (EndCall ∷ calls) = payload_bytes calls
+
 -- one of the packets that were given leaves in runs, which can be written with its payload; they tell no more samples than
 -- that has bytes
 pub record IsWhole (calls : List Call) (part : Part) : Type 0 where

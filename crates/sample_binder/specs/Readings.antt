@@ -1,12 +1,28 @@
--- The same in other words: what a due event is, what the stretches of a packet are, and what is read of a data packet.
-use Rattle.std.specs.Prelude.{◌≡◌, ◌⊎◌, ℕ, zero, suc, ◌+◌, ◌*◌, ◌<◌, ◌≤◌, true, false, List, [], ◌∷◌, length, Some}
+-- The same in other words: what events bring, what a due event is, what the stretches of a packet are, and what is read of a data packet.
+use Rattle.std.specs.Prelude.{◌≡◌, ◌⊎◌, ℕ, zero, suc, ◌+◌, ◌*◌, ◌<◌, ◌≤◌, true, false, List, [], ◌∷◌, ◌++◌, length, map, Some}
 use Rattle.difi_data.specs.Data.{DataPacket}
 use Rattle.sample_binder.specs.declared.label.Label.{Label}
 use Rattle.vrt_fields.specs.declared.limits.Limits.{Limits}
-use Rattle.sample_binder.specs.Calls.{data_stamp, data_count, shape_in}
+use Rattle.reorder_window.specs.Window.{releases}
+use Rattle.sample_binder.specs.Calls.{Call, EndCall, data_stamp, data_count, shape_in, context_arrivals, data_arrivals, all_releases, events_of}
 use Rattle.sample_binder.specs.Due.{has_case_after, due}
-use Rattle.sample_binder.specs.Events.{Event}
+use Rattle.sample_binder.specs.Events.{Event, EndEvent, contexts_of, packets_of, has_ended}
+use Rattle.sample_binder.specs.Released.{released_context, released_packet}
 use Rattle.sample_binder.specs.Runs.{same_label}
+
+-- before the end was told, the events bring what the windows have released, and not the end
+pub record AreReleases (limits : Limits) (calls : List Call) : Type 0 where
+  pub contexts : contexts_of (events_of limits calls) ≡ map released_context (releases limits.context_window (context_arrivals calls) 0)
+  pub packets : packets_of (events_of limits calls) ≡ map released_packet (releases limits.data_window (data_arrivals calls) 0)
+  pub running : has_ended (events_of limits calls) ≡ false
+
+-- where the end is told then, they bring all that was accepted, and the end comes last and once
+pub record AreAllReleases (limits : Limits) (calls : List Call) : Type 0 where
+  pub contexts : contexts_of (events_of limits (calls ++ EndCall ∷ [])) ≡ map released_context (all_releases limits.context_window (context_arrivals calls))
+  pub packets : packets_of (events_of limits (calls ++ EndCall ∷ [])) ≡ map released_packet (all_releases limits.data_window (data_arrivals calls))
+  pub front : List Event
+  pub end_last : events_of limits (calls ++ EndCall ∷ []) ≡ front ++ EndEvent ∷ []
+  pub once : has_ended front ≡ false
 
 -- from where packet number j may be due: the first from the beginning, each other one from the due event of the one before
 abbrev pub IsSince : Limits → List Event → ℕ → ℕ → Type 0

@@ -1,5 +1,5 @@
 -- The runs in which a due packet leaves.
-use Rattle.std.specs.Prelude.{ℕ, suc, zero, ◌-◌, ◌==◌, ◌&&◌, not, nat_lt, Bool, true, if◌then◌else◌, List, [], ◌∷◌, slice_index, map, Option, Some, None}
+use Rattle.std.specs.Prelude.{ℕ, suc, zero, ◌-◌, ◌==◌, ◌&&◌, not, nat_lt, Bool, true, false, if◌then◌else◌, List, [], ◌∷◌, slice_index, map, Option, Some, None}
 use Rattle.vrt_time.specs.Time.{TimeStamp, moment_of, capture_at}
 use Rattle.context_timeline.specs.declared.mark.Mark.{Mark}
 use Rattle.context_timeline.specs.declared.mark.Mark.TheVariants as mark
@@ -29,37 +29,22 @@ label_by first why (mark.Lost lost) = label.Uncertain (reason.ContextLost lost)
 label_by first why (mark.Bound place fields) =
     if same_sampling first fields then label.Bound place fields else label.Uncertain reason.FormatChanged
 
--- the number of a reason, and its detail
-abbrev pub reason_number : Reason → ℕ
-reason_number reason.BeforeFirst = 1
-reason_number (reason.ContextLost lost) = 2
-reason_number reason.PendingFull = 3
-reason_number reason.TimelineFull = 4
-reason_number reason.Ended = 5
-reason_number reason.FormatChanged = 6
-reason_number reason.Shape = 7
-
-abbrev pub reason_detail : Reason → ℕ
-reason_detail reason.BeforeFirst = 0
-reason_detail (reason.ContextLost lost) = lost
-reason_detail reason.PendingFull = 0
-reason_detail reason.TimelineFull = 0
-reason_detail reason.Ended = 0
-reason_detail reason.FormatChanged = 0
-reason_detail reason.Shape = 0
-
--- the same for a label: bound to a context has number 0 and the number of the context
-abbrev pub label_number : Label → ℕ
-label_number (label.Bound place fields) = 0
-label_number (label.Uncertain reason) = reason_number reason
-
-abbrev pub label_detail : Label → ℕ
-label_detail (label.Bound place fields) = place
-label_detail (label.Uncertain reason) = reason_detail reason
+-- the same reason: where contexts were lost, as many
+abbrev pub same_reason : Reason → Reason → Bool
+same_reason reason.BeforeFirst reason.BeforeFirst = true
+same_reason (reason.ContextLost lost) (reason.ContextLost other) = lost == other
+same_reason reason.PendingFull reason.PendingFull = true
+same_reason reason.TimelineFull reason.TimelineFull = true
+same_reason reason.Ended reason.Ended = true
+same_reason reason.FormatChanged reason.FormatChanged = true
+same_reason reason.Shape reason.Shape = true
+same_reason a b = false
 
 -- bound to the same context, or uncertain for the same reason
 abbrev pub same_label : Label → Label → Bool
-same_label a b = label_number a == label_number b && label_detail a == label_detail b
+same_label (label.Bound place fields) (label.Bound other others) = place == other
+same_label (label.Uncertain why) (label.Uncertain other) = same_reason why other
+same_label a b = false
 
 -- the labels of the samples of a packet
 abbrev pub label_at : Line → Reason → TimeStamp → List ℕ → ℕ → Label

@@ -72,6 +72,32 @@ fn drain_data(packets: &mut Window<PacketBuf>, binding: &mut Binding) -> bool
     }
 }
 
+// The least of the held contexts, or else of the held data packets, is an event, if there is one.
+fn drain_held(
+    contexts: &mut Window<ContextRec>,
+    packets: &mut Window<PacketBuf>,
+    binding: &mut Binding,
+) -> bool
+    requires contexts { MayDrain contexts.old binding.old.line }
+    requires packets { ArePacketsSeen packets.old true }
+    requires nothing { owed binding.old ≡ [] }
+    requires running { binding.old.ended ≡ false }
+    ensures drains { Drains contexts.old packets.old binding.old contexts.new packets.new binding.new }
+    ensures running { binding.new.ended ≡ false }
+    ensures fewer { result ≡ true → length contexts.new.held + length packets.new.held
+        < length contexts.old.held + length packets.old.held }
+    ensures no_contexts { result ≡ false → contexts.new.held ≡ [] }
+    ensures no_packets { result ≡ false → packets.new.held ≡ [] }
+    ensures nothing { result ≡ false → owed binding.new ≡ [] }
+    ensures still { result ≡ false → length contexts.new.held + length packets.new.held
+        ≡ length contexts.old.held + length packets.old.held }
+{
+    if drain_context(contexts, binding) {
+        return true;
+    }
+    drain_data(packets, binding)
+}
+
 // The next event of the end: a context that is held, or else a data packet that is held, or else the end itself.
 fn drain_event(
     contexts: &mut Window<ContextRec>,
@@ -86,10 +112,7 @@ fn drain_event(
     ensures fewer { steps_left contexts.new packets.new binding.new.ended
         < steps_left contexts.old packets.old binding.old.ended }
 {
-    if drain_context(contexts, binding) {
-        return;
-    }
-    if drain_data(packets, binding) {
+    if drain_held(contexts, packets, binding) {
         return;
     }
     binding.end();

@@ -260,3 +260,33 @@ fn a_context_between_two_samples_has_the_second(rt: HostRuntime) -> Result<(), W
     ];
     play(rt.alloc(), LIMITS, &steps)
 }
+
+// Each reason with its number and its detail, as records tell them.
+const ROWS: [(u32, u32, Reason); 8] = [
+    (1, 0, Reason::BeforeFirst),
+    (2, 1, Reason::ContextLost(1)),
+    (2, 15, Reason::ContextLost(15)),
+    (3, 0, Reason::PendingFull),
+    (4, 0, Reason::TimelineFull),
+    (5, 0, Reason::Ended),
+    (6, 0, Reason::FormatChanged),
+    (7, 0, Reason::Shape),
+];
+
+#[test]
+fn each_reason_has_its_number_and_detail(rt: HostRuntime) -> Result<(), Wrong> {
+    for (number, detail, reason) in ROWS.iter() {
+        assert_eq!(rt; Reason::of(*number, *detail), Some(*reason));
+        assert_eq!(rt; reason.number(), *number);
+        assert_eq!(rt; reason.detail(), *detail);
+    }
+    Ok(())
+}
+
+#[test]
+fn other_numbers_and_details_are_no_reason(rt: HostRuntime) -> Result<(), Wrong> {
+    for (number, detail) in [(0, 0), (8, 0), (2, 0), (2, 16), (1, 1), (3, 1), (7, 1)].iter() {
+        assert_eq!(rt; Reason::of(*number, *detail), None);
+    }
+    Ok(())
+}

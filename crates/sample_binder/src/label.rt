@@ -1,5 +1,5 @@
 ghost use Rattle.std.specs.Prelude.{◌≡◌};
-ghost use Rattle.sample_binder.specs.Runs.{same_sampling, label_by, same_label, label_number, label_detail, reason_number, reason_detail};
+ghost use Rattle.sample_binder.specs.Runs.{same_sampling, label_by, same_reason, same_label};
 
 use crate::reason::Reason;
 use crate::sampling::rate_of;
@@ -7,9 +7,14 @@ use context_timeline::Mark;
 
 /// What is known of one sample.
 #[derive(Clone, Copy)]
-pub(crate) enum Label {
+pub enum Label {
     /// The context of this number is in force.
-    Bound { place: u64, fields: [u32; 19] },
+    Bound {
+        /// Its number among all contexts that were released, from 0.
+        place: u64,
+        /// The words of its fields.
+        fields: [u32; 19],
+    },
     /// No context is given.
     Uncertain(Reason),
 }
@@ -45,46 +50,20 @@ fn has_same_sampling(a: &[u32; 19], b: &[u32; 19]) -> bool
 pub(crate) fn is_same(a: &Label, b: &Label) -> bool
     ensures { result ≡ same_label a.now b.now }
 {
-    number(a) == number(b) && detail(a) == detail(b)
-}
-
-fn number(label: &Label) -> u8
-    ensures { result ≡ label_number label.now }
-{
-    match label {
-        Label::Bound { .. } => 0,
-        Label::Uncertain(reason) => number_of_reason(reason),
+    match a {
+        Label::Bound { place, .. } => match b {
+            Label::Bound { place: other, .. } => *place == *other,
+            Label::Uncertain(_) => false,
+        },
+        Label::Uncertain(reason) => match b {
+            Label::Bound { .. } => false,
+            Label::Uncertain(other) => is_same_reason(reason, other),
+        },
     }
 }
 
-fn detail(label: &Label) -> u64
-    ensures { result ≡ label_detail label.now }
+fn is_same_reason(a: &Reason, b: &Reason) -> bool
+    ensures { result ≡ same_reason a.now b.now }
 {
-    match label {
-        Label::Bound { place, .. } => *place,
-        Label::Uncertain(reason) => u64::from(detail_of_reason(reason)),
-    }
-}
-
-fn number_of_reason(reason: &Reason) -> u8
-    ensures { result ≡ reason_number reason.now }
-{
-    match reason {
-        Reason::BeforeFirst => 1,
-        Reason::ContextLost(_) => 2,
-        Reason::PendingFull => 3,
-        Reason::TimelineFull => 4,
-        Reason::Ended => 5,
-        Reason::FormatChanged => 6,
-        Reason::Shape => 7,
-    }
-}
-
-fn detail_of_reason(reason: &Reason) -> u8
-    ensures { result ≡ reason_detail reason.now }
-{
-    match reason {
-        Reason::ContextLost(lost) => *lost,
-        _ => 0,
-    }
+    a == b
 }

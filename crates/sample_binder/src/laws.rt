@@ -1,4 +1,4 @@
-ghost use Rattle.std.specs.Prelude.{◌≡◌, ℕ, ◌≤◌, ◌↔◌, List, [], ◌∷◌, ◌++◌, length, Some};
+ghost use Rattle.std.specs.Prelude.{◌≡◌, ℕ, ◌≤◌, ◌↔◌, List, [], ◌∷◌, ◌++◌, false, length, Some};
 ghost use Rattle.vrt_words.specs.Begins.{IsDatagram};
 ghost use Rattle.vrt_header.specs.Profile.{PacketProfile};
 ghost use Rattle.difi_data.specs.Data.{DataPacket, IsData};
@@ -6,13 +6,19 @@ ghost use Rattle.sample_binder.specs.declared.label.Label.{Label};
 ghost use Rattle.vrt_fields.specs.declared.limits.Limits.{Limits};
 ghost use Rattle.sample_binder.specs.declared.out.Out.{Out};
 ghost use Rattle.sample_binder.specs.Binder.{Bound, StandsFor};
-ghost use Rattle.sample_binder.specs.Calls.{Call, outputs_of, given_by};
+ghost use Rattle.sample_binder.specs.Calls.{Call, EndCall, is_told, behind, all_releases, events_by, events_of, outputs_of, given_by};
 ghost use Rattle.sample_binder.specs.Due.{due};
 ghost use Rattle.sample_binder.specs.Events.{Event};
 ghost use Rattle.sample_binder.specs.Outputs.{outputs};
-ghost use Rattle.sample_binder.specs.Parts.{AreCallsOf, AreWhole, AreParts, AnyPart};
+ghost use Rattle.sample_binder.specs.Parts.{AreCallsOf, AreWhole, AreParts, AnyPart, samples_told, payload_bytes};
 ghost use Rattle.sample_binder.specs.Runs.{cut};
-ghost use Rattle.sample_binder.specs.Readings.{IsDueEvent, AreStretches, IsRead};
+ghost use Rattle.sample_binder.specs.Readings.{AreReleases, AreAllReleases, IsDueEvent, AreStretches, IsRead};
+ghost use Rattle.sample_binder.specs.Given.{IsDataOf, HasDataSize};
+ghost use Rattle.sample_binder.specs.Sound.{HasSampling};
+ghost use Rattle.difi_context.specs.Context.{IsInGrammar};
+ghost use Rattle.difi_context.specs.declared.context.ContextRec.{ContextRec};
+ghost use Rattle.reorder_window.specs.declared.entry.Entry.{Entry};
+ghost use Rattle.reorder_window.specs.Window.{releases};
 
 /// A law that a proof can cite. A packet is due at the least event at which one of its cases holds
 /// and which is not before the due event of the packet before it. What leaves stays: what events
@@ -65,4 +71,45 @@ pub fn outputs_append()
 pub fn taken_are_outputs()
     ensures { (bound : Bound) (calls : List Call) (taken : ℕ) → StandsFor bound calls taken
         → taken ≤ length (outputs_of bound.limits calls) }
+{}
+
+/// A law that a proof can cite, for every list of arrivals. What a window has released stays so, and
+/// what more arrivals release comes behind it; so does, at the end, what was held.
+#[inline]
+pub fn releases_only_grow<T>()
+    ensures arriving { (size : ℕ) (arrivals later : List (Entry T)) → releases size (arrivals ++ later) 0
+        ≡ releases size arrivals 0 ++ behind (releases size arrivals 0) (releases size (arrivals ++ later) 0) }
+    ensures ending { (size : ℕ) (arrivals : List (Entry T)) → all_releases size arrivals
+        ≡ releases size arrivals 0 ++ behind (releases size arrivals 0) (all_releases size arrivals) }
+{}
+
+/// A law that a proof can cite. The events of one more call stand behind those of the calls before.
+/// The contexts and the data packets of all events are all releases, each in order; once the end is
+/// told, they are all that were accepted, and the end is the last event, and comes once.
+#[inline]
+pub fn events_are_all_releases()
+    ensures more { (limits : Limits) (calls : List Call) (call : Call)
+        → events_of limits (calls ++ call ∷ []) ≡ events_of limits calls ++ events_by limits calls call }
+    ensures arriving { (limits : Limits) (calls : List Call) → is_told calls ≡ false → AreReleases limits calls }
+    ensures ending { (limits : Limits) (calls : List Call) → is_told calls ≡ false → AreAllReleases limits calls }
+{}
+
+/// A law that a proof can cite. The fields of a context in the grammar have a sample rate and an item
+/// size within their ranges, and a data packet is whole words, of which the payload has one at least.
+#[inline]
+pub fn packets_are_sound()
+    ensures sampling { (rec : ContextRec) → IsInGrammar rec → HasSampling rec.fields }
+    ensures size { (profile : PacketProfile) (bytes : List ℕ) → IsDataOf profile bytes → HasDataSize bytes }
+{}
+
+/// A law that a proof can cite. Where the packet of each call is one of its kind, a stream tells no
+/// more samples than the payloads that it was given have bytes.
+#[inline]
+pub fn samples_are_at_most_bytes()
+    ensures arriving { (profile : PacketProfile) (limits : Limits) (calls : List Call)
+        → AreCallsOf profile calls → is_told calls ≡ false
+        → samples_told (outputs_of limits calls) ≤ payload_bytes calls }
+    ensures ending { (profile : PacketProfile) (limits : Limits) (calls : List Call)
+        → AreCallsOf profile calls → is_told calls ≡ false
+        → samples_told (outputs_of limits (calls ++ EndCall ∷ [])) ≤ payload_bytes calls }
 {}

@@ -1,12 +1,12 @@
 -- Laws of the table of fields, and of sets by field.
-use Rattle.std.proofs.Common.{◌≡◌, ◌≢◌, ℕ, zero, suc, ◌+◌, ◌*◌, ◌^◌, ◌<◌, ◌≤◌, ◌↔◌, List, [], ◌∷◌, length, take, get_or, sum_by, Option, Some, None, if◌then◌else◌, ◌==◌, refl, sym, ap, ◌∙◌, subst, arith}
+use Rattle.std.proofs.Common.{◌≡◌, ◌≢◌, ℕ, zero, suc, ◌+◌, ◌<◌, ◌≤◌, ◌↔◌, List, [], ◌∷◌, length, take, get_or, sum_by, Option, Some, None, if◌then◌else◌, ◌==◌, refl, sym, ap, ◌∙◌, subst, arith}
 use Rattle.std.proofs.lemmas.List.{ext_get_or}
 use Rattle.std.proofs.lemmas.List.Sums.{sum_by-cons}
 use Rattle.vrt_fields.specs.declared.field.Field.{Field}
 use Rattle.vrt_fields.specs.declared.field.Field.TheVariants.{ReferencePoint, Bandwidth, IfReference, RfReference, IfOffset, ReferenceLevel, Gain, SampleRate, TimeAdjustment, Calibration, State, Format}
-use Rattle.vrt_fields.specs.Field.{bit_of, width_of, place_of, fields_in_order}
-use Rattle.vrt_fields.specs.FieldSet.{FieldValues, IsFieldSet, bit_in, index_of, mask_of, mask_with, value_of}
-use Rattle.vrt_fields.proofs.FieldSetLaws.{AllFit, Falling, IsFieldSet-AllFit, falling_order, flag, mask_bit}
+use Rattle.vrt_fields.specs.Field.{width_of, place_of, fields_in_order}
+use Rattle.vrt_fields.specs.FieldSet.{FieldValues, IsFieldSet, bit_in, index_of, mask_of, value_of}
+use Rattle.vrt_fields.proofs.FieldSetLaws.{flag, mask_bit}
 
 -- the field that begins at a place, and any field for another number
 abbrev field_from : ℕ → Field

@@ -79,9 +79,6 @@ width_end cif0 i e = ap (λ n. sum_by (λ f. bit_in cif0 f * width_of f) (drop n
 pub number_end : (cif0 i : ℕ) → i ≡ 12 → sum_by (λ f. bit_in cif0 f) (drop i fields_in_order) ≡ 0
 number_end cif0 i e = ap (λ n. sum_by (λ f. bit_in cif0 f) (drop n fields_in_order)) e
 
-pub bits_end : (cif0 i : ℕ) → i ≡ 12 → sum_by (λ f. bit_in cif0 f * 2 ^ bit_of f) (drop i fields_in_order) ≡ 0
-bits_end cif0 i e = ap (λ n. sum_by (λ f. bit_in cif0 f * 2 ^ bit_of f) (drop n fields_in_order)) e
-
 pub values_end : (cif0 i : ℕ) (words : List ℕ) → i ≡ 12 → values_in cif0 (drop i fields_in_order) words ≡ []
 values_end cif0 i words e = ap (λ n. values_in cif0 (drop n fields_in_order) words) e
 

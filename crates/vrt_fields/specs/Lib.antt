@@ -5,4 +5,5 @@ pub mod Limits
 pub mod Format
 pub mod FieldSet
 pub mod Values
+pub mod NumberText
 pub mod Text

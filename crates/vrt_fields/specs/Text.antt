@@ -1,26 +1,11 @@
 -- The text of a field: its name and its value in the units of the standard.
-use Rattle.std.specs.Prelude.{ℕ, ◌-◌, ◌/◌, ◌%◌, ◌^◌, ℤ, List, [], ◌∷◌, ◌++◌, length, replicate, true, codes}
+use Rattle.std.specs.Prelude.{ℕ, ◌/◌, ◌%◌, ◌^◌, ℤ, List, ◌++◌, codes}
 use Rattle.std.specs.Int.{cast_signed, int_shr}
-use Rattle.std.specs.Fmt.{decimal, signed_decimal, digit_glyph}
+use Rattle.std.specs.Fmt.{decimal, signed_decimal}
 use mir.Syntax.{w16, w64}
-use Rattle.vrt_words.specs.Words.{bits}
+use Rattle.vrt_fields.specs.NumberText.{hexadecimal, hexadecimal_half}
 use Rattle.vrt_fields.specs.declared.field.Field.{Field}
 use Rattle.vrt_fields.specs.declared.field.Field.TheVariants.{ReferencePoint, Bandwidth, IfReference, RfReference, IfOffset, ReferenceLevel, Gain, SampleRate, TimeAdjustment, Calibration, State, Format}
-
--- four digits to the base 16, with upper-case letters, and eight
-abbrev pub hexadecimal_half : ℕ → List ℕ
-hexadecimal_half half = digit_glyph true (bits half 12 4) ∷ digit_glyph true (bits half 8 4)
-    ∷ digit_glyph true (bits half 4 4) ∷ digit_glyph true (bits half 0 4) ∷ []
-
-abbrev pub hexadecimal : ℕ → List ℕ
-hexadecimal word = digit_glyph true (bits word 28 4) ∷ digit_glyph true (bits word 24 4)
-    ∷ digit_glyph true (bits word 20 4) ∷ digit_glyph true (bits word 16 4)
-    ∷ digit_glyph true (bits word 12 4) ∷ digit_glyph true (bits word 8 4)
-    ∷ digit_glyph true (bits word 4 4) ∷ digit_glyph true (bits word 0 4) ∷ []
-
--- decimal digits, with zeros in front of them up to so many
-abbrev pub padded_decimal : ℕ → ℕ → List ℕ
-padded_decimal width number = replicate (width - length (decimal number)) 48 ++ decimal number
 
 -- the number in 64 bits, and in 16, in two's complement
 abbrev pub signed_64 : ℕ → ℤ

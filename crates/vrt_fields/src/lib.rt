@@ -2,7 +2,6 @@
 //! values, the texts of these, and the payload format that one of them holds.
 #![tactic(auto)]
 
-mod digits;
 mod field;
 mod field_set;
 mod field_words;
@@ -14,6 +13,7 @@ mod limit;
 #[cfg(test)]
 mod limit_tests;
 mod limits;
+mod number_text;
 mod round_trip;
 mod route;
 #[cfg(test)]
@@ -23,10 +23,6 @@ mod values;
 #[cfg(test)]
 mod words_tests;
 
-pub use crate::digits::{
-    fill_decimal, hexadecimal_of, push_decimal, push_hexadecimal, push_padded, push_signed,
-    push_text,
-};
 pub use crate::field::Field;
 pub use crate::field_set::FieldSet;
 pub use crate::field_words::{
@@ -38,6 +34,10 @@ pub use crate::laws::{
 };
 pub use crate::limit::Limit;
 pub use crate::limits::Limits;
+pub use crate::number_text::{
+    fill_decimal, hexadecimal_of, push_decimal, push_hexadecimal, push_padded, push_signed,
+    push_text,
+};
 pub use crate::round_trip::{one_set_for_words, written_and_read};
 pub use crate::route::Route;
 pub use crate::text::text_of;

@@ -3,8 +3,8 @@ ghost use Rattle.vrt_fields.specs.Field.{width_of};
 ghost use Rattle.vrt_fields.specs.Text.{field_name, value_text, field_text, hertz, level, gains, signed_16};
 ghost use Rattle.std.specs.Fmt.{signed_decimal};
 
-use crate::digits::{push_decimal, push_half, push_hexadecimal, push_signed, push_text};
 use crate::field::Field;
+use crate::number_text::{push_decimal, push_half, push_hexadecimal, push_signed, push_text};
 use std::alloc::Global;
 use vrt_words::NoMemory;
 

@@ -24,7 +24,7 @@ lengths i field mask bit words h e same k =
 pub put_response-count-requires : goal.put_response-count-requires
 put_response-count-requires c =
     let r = c.args.responses.now in
-    let sizes = lengths c.loop-index.index c.field_at.result r.cif0 c.bit_under-listed.result r.words (omega arith) c.field_at.ensures c.bit_under-listed.ensures.bit (omega arith) in
+    let sizes = lengths c.loop-index.index c.field_at.result r.cif0 c.bit_under-listed.result r.words (omega arith) c.field_at.ensures c.bit_under-listed.ensures.number (omega arith) in
     omega (arith, sizes, listed_most r.cif0 r.words, c.loop-index.invariant.count)
 
 pub loop-index-preserved : goal.loop-index-preserved
@@ -32,8 +32,8 @@ loop-index-preserved c =
     let r = c.args.responses.now in
     let i = c.loop-index.index in
     let bit = c.bit_under-listed.result in
-    let same = next i c.field_at.result r.cif0 bit r.words (omega arith) c.field_at.ensures c.bit_under-listed.ensures.bit (omega arith) in
-    let sizes = lengths i c.field_at.result r.cif0 bit r.words (omega arith) c.field_at.ensures c.bit_under-listed.ensures.bit (omega arith) in
+    let same = next i c.field_at.result r.cif0 bit r.words (omega arith) c.field_at.ensures c.bit_under-listed.ensures.number (omega arith) in
+    let sizes = lengths i c.field_at.result r.cif0 bit r.words (omega arith) c.field_at.ensures c.bit_under-listed.ensures.number (omega arith) in
     record {
       size = omega arith;
       count = omega (arith, sizes, c.loop-index.invariant.count);

@@ -15,33 +15,33 @@ write_command_prologue-at-requires-clause-spelled c =
     let s = c.requires.spelled in
     let m = command_words (front_of c.args.packet.now) in (
       take m s.0,
-      AreWords-take m s.0 s.1,
-      subst (λ (f : CommandPrologue). IsCommandPrologue c.args.profile roles.Control f (take m s.0)) (sym c.prologue_of-front.ensures) s.2.front,
+      AreWords-take m s.0 s.1.are_words,
+      subst (λ (f : CommandPrologue). IsCommandPrologue c.args.profile roles.Control f (take m s.0)) (sym c.front-front.ensures) s.1.told.front,
     )
 
 pub write_command_prologue-at-requires-clause-room : goal.write_command_prologue-at-requires-clause-room
 write_command_prologue-at-requires-clause-room c =
     let s = c.requires.spelled in
-    let size = control_size c.args.profile c.args.packet.now s.0 s.2 in
-    omega (arith, c.requires.room, size, ap command_words c.prologue_of-front.ensures)
+    let size = control_size c.args.profile c.args.packet.now s.0 s.1.told in
+    omega (arith, c.requires.room, size, ap command_words c.front-front.ensures)
 
 pub put_words-requires : goal.put_words-requires
 put_words-requires c =
     let s = c.requires.spelled in
-    let size = control_size c.args.profile c.args.packet.now s.0 s.2 in
-    omega (arith, c.requires.room, size, c.write_command_prologue-at.ensures.length, ap command_words c.prologue_of-front.ensures)
+    let size = control_size c.args.profile c.args.packet.now s.0 s.1.told in
+    omega (arith, c.requires.room, size, c.write_command_prologue-at.ensures.length, ap command_words c.front-front.ensures)
 
 pub put_values-requires : goal.put_values-requires
 put_values-requires c =
     let s = c.requires.spelled in
-    let size = control_size c.args.profile c.args.packet.now s.0 s.2 in
-    omega (arith, c.requires.room, size, c.write_command_prologue-at.ensures.length, ap command_words c.prologue_of-front.ensures)
+    let size = control_size c.args.profile c.args.packet.now s.0 s.1.told in
+    omega (arith, c.requires.room, size, c.write_command_prologue-at.ensures.length, ap command_words c.front-front.ensures)
 
 pub returns-clause-size : goal.returns-clause-size
 returns-clause-size c =
     let s = c.requires.spelled in
-    let size = control_size c.args.profile c.args.packet.now s.0 s.2 in
-    omega (arith, size, c.write_command_prologue-at.ensures.length, ap command_words c.prologue_of-front.ensures, c.put_values.ensures.end)
+    let size = control_size c.args.profile c.args.packet.now s.0 s.1.told in
+    omega (arith, size, c.write_command_prologue-at.ensures.length, ap command_words c.front-front.ensures, c.put_values.ensures.end)
 
 -- the words in front are those of the command
 row : (c : goal.After-slice_known-4-1) → take c.put_values.result (words_of c.put_values.new.into) ≡ c.requires.spelled.0
@@ -54,31 +54,34 @@ row c =
     let second = words_of c.put_words.new.bytes in
     let third = words_of c.put_values.new.into in
     let values = words_of_values packet.fields in
-    let size = control_size c.args.profile packet s.0 s.2 in
-    let start = c.write_command_prologue-at.ensures.length ∙ ap command_words c.prologue_of-front.ensures in
+    let size = control_size c.args.profile packet s.0 s.1.told in
+    let start = c.write_command_prologue-at.ensures.length ∙ ap command_words c.front-front.ensures in
     let there = length-words_of c.write_command_prologue-at.new.into in
     let there' = length-words_of c.put_words.new.bytes in
-    let is = subst (λ (f : CommandPrologue). IsCommandPrologue c.args.profile roles.Control f (take (command_words front) s.0)) (sym c.prologue_of-front.ensures) s.2.front in
+    let is = subst (λ (f : CommandPrologue). IsCommandPrologue c.args.profile roles.Control f (take (command_words front) s.0)) (sym c.front-front.ensures) s.1.told.front in
     let e1 : take at first ≡ take (command_words front) s.0 =
-    c.write_command_prologue-at.ensures.again (take (command_words front) s.0) (AreWords-take (command_words front) s.0 s.1) is in
+    c.write_command_prologue-at.ensures.again (take (command_words front) s.0) (AreWords-take (command_words front) s.0 s.1.are_words) is in
     let e2 : take (at + 1) second ≡ take at first ++ (packet.asked ∷ []) =
     take_put at (at + 1) second first (packet.asked ∷ []) (drop (at + 1) first) (omega (arith, c.requires.room, size, start, there)) (omega arith) c.put_words.ensures.words in
     let e3 : take c.put_values.result third ≡ take (at + 1) second ++ values =
     take_put (at + 1) c.put_values.result third second values (drop c.put_values.result second) (omega (arith, c.requires.room, size, start, there')) c.put_values.ensures.end c.put_values.ensures.words in
-    e3 ∙ ap (λ xs. xs ++ values) e2 ∙ row_words c.args.profile packet s.0 (take at first) s.2 e1
+    e3 ∙ ap (λ xs. xs ++ values) e2 ∙ row_words c.args.profile packet s.0 (take at first) s.1.told e1
 
 pub returns-clause-packet : goal.returns-clause-packet
 returns-clause-packet c =
     let s = c.requires.spelled in
     let size = returns-clause-size c in
-    datagram_in_front (IsControl c.args.profile) c.args.packet.now c.put_values.new.into s.0 c.put_values.result (omega (arith, c.requires.room, size)) s.2
-    (sym s.2.size ∙ sym size) (row c)
+    datagram_in_front (IsControl c.args.profile) c.args.packet.now c.put_values.new.into s.0 c.put_values.result (omega (arith, c.requires.room, size)) s.1.told
+    (sym s.1.told.size ∙ sym size) (row c)
 
 pub returns-clause-again : goal.returns-clause-again
 returns-clause-again c = λ bytes fit h.
     let n = 4 * c.put_values.result in
     one_datagram c.args.profile c.args.packet.now (take n c.put_values.new.into) bytes
     (AreBytes-take n c.put_values.new.into (λ i. omega (arith, c.type_inv.into i))) fit (returns-clause-packet c) h
+
+pub returns-clause-bytes : goal.returns-clause-bytes
+returns-clause-bytes c = λ i. omega (arith, c.type_inv.into i)
 
 pub returns-clause-behind : goal.returns-clause-behind
 returns-clause-behind c =

@@ -7,4 +7,4 @@ use Rattle.command_codec.proofs.tests.written_again.Goals as goal
 pub encode_control-requires-clause-spelled : goal.encode_control-requires-clause-spelled
 encode_control-requires-clause-spelled c =
     let bytes = c.args.bytes.now in
-    (words_of bytes, words_of-words bytes (λ i. omega (arith, c.type_inv.bytes i)), c.in-Ok.ensures.found.packet)
+    (words_of bytes, record { are_words = words_of-words bytes (λ i. omega (arith, c.type_inv.bytes i)); told = c.in-Ok.ensures.found.packet })

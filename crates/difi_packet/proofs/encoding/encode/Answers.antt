@@ -10,6 +10,17 @@ returns-in-Context-clause-packet c =
     let p : IsDatagram (IsPacket c.args.profile) (ContextValue c.in-Context.rec) (take 108 c.encode-in-Context.new.into) = record { whole = d.whole; packet = d.packet } in
     rw c.in-Context.is p
 
+-- the words that spell the packet are those of the command, or of the cancellation
+pub encode_control-requires-clause-spelled : goal.encode_control-requires-clause-spelled
+encode_control-requires-clause-spelled c =
+    let s = c.requires.spelled in
+    let told = rw c.in-Control.is at s.2 in (s.0, record { are_words = s.1; told = told })
+
+pub encode_cancel-requires-clause-spelled : goal.encode_cancel-requires-clause-spelled
+encode_cancel-requires-clause-spelled c =
+    let s = c.requires.spelled in
+    let told = rw c.in-Cancel.is at s.2 in (s.0, record { are_words = s.1; told = told })
+
 pub returns-in-Context-clause-again : goal.returns-in-Context-clause-again
 returns-in-Context-clause-again c = λ bytes fits d.
     let p = rw c.in-Context.is at d in

@@ -1,6 +1,7 @@
 use Rattle.std.proofs.Common.{◌++◌, ◌∙◌, ap, codes}
 use Rattle.vrt_fields.specs.FieldSet.{mask_of}
-use Rattle.difi_texts.specs.CommandDetails.{word_line, front_lines, front_of_state, set_lines}
+use Rattle.ack_codec.specs.Ack.{front_of_state}
+use Rattle.difi_texts.specs.CommandDetails.{word_line, front_lines, set_lines}
 use Rattle.difi_texts.proofs.Texts.{three_behind}
 use Rattle.difi_texts.proofs.command_details.push_state.Goals as goal
 

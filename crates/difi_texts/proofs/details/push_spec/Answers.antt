@@ -1,5 +1,5 @@
 use Rattle.std.proofs.Common.{◌≡◌, ◌++◌, ℕ, List, ap, ◌∙◌, append_assoc, codes}
-use Rattle.vrt_fields.specs.Text.{hexadecimal}
+use Rattle.vrt_fields.specs.NumberText.{hexadecimal}
 use Rattle.difi_texts.specs.Prologue.{indented}
 use Rattle.difi_texts.proofs.details.push_spec.Goals as goal
 

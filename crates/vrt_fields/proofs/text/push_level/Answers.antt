@@ -1,6 +1,7 @@
 use Rattle.std.proofs.Common.{◌≡◌, ◌++◌, ◌/◌, ◌%◌, ℕ, List, ap, ◌∙◌, append_assoc, codes}
 use Rattle.std.specs.Fmt.{signed_decimal}
-use Rattle.vrt_fields.specs.Text.{signed_16, hexadecimal_half, level}
+use Rattle.vrt_fields.specs.NumberText.{hexadecimal_half}
+use Rattle.vrt_fields.specs.Text.{signed_16, level}
 use Rattle.vrt_fields.proofs.text.push_level.Goals as goal
 
 level_parts : (old : List ℕ) (word : ℕ)

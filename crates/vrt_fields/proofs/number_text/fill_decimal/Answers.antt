@@ -4,7 +4,7 @@ use Rattle.std.proofs.Math.ListN.{set, length-set}
 use Rattle.std.proofs.lemmas.List.{drop-set, drop_all}
 use Rattle.std.proofs.lemmas.Fmt.{decimal_step, decimal_digit, decimal_nonempty, length-decimal-le}
 use Rattle.std.specs.Fmt.{decimal}
-use Rattle.vrt_fields.proofs.digits.fill_decimal.Goals as goal
+use Rattle.vrt_fields.proofs.number_text.fill_decimal.Goals as goal
 
 record Step (number rest start : ℕ) (into : List ℕ) : Type 0 where
   room : length (decimal (rest / 10)) ≤ start - 1

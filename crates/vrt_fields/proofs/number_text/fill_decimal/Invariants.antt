@@ -1,6 +1,6 @@
 use Rattle.std.proofs.Common.{◌≡◌, ◌≤◌, ◌<◌, ◌^◌, ◌++◌, drop, length}
 use Rattle.std.specs.Fmt.{decimal}
-use Rattle.vrt_fields.proofs.digits.fill_decimal.Given as goal
+use Rattle.vrt_fields.proofs.number_text.fill_decimal.Given as goal
 
 -- the digits in front are still to be written, and those from the start on are
 abbrev pub invariant-loop-rest : goal.invariant-loop-rest

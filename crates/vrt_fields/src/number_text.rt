@@ -1,6 +1,6 @@
 ghost use Rattle.std.specs.Prelude.{◌≡◌, ◌≤◌, ◌<◌, ◌+◌, ◌^◌, ◌++◌, ◌∷◌, [], true, drop, length, replicate, vec_len, vec_capacity};
 ghost use Rattle.std.specs.Fmt.{decimal, signed_decimal, digit_glyph};
-ghost use Rattle.vrt_fields.specs.Text.{hexadecimal, hexadecimal_half, padded_decimal};
+ghost use Rattle.vrt_fields.specs.NumberText.{hexadecimal, hexadecimal_half, padded_decimal};
 
 use vrt_words::bits_of;
 

@@ -1,0 +1,8 @@
+use Rattle.sample_binder.proofs.TotalLemmas.{samples_arriving, samples_ending}
+use Rattle.sample_binder.proofs.laws.samples_are_at_most_bytes.Goals as goal
+
+pub returns-clause-arriving : goal.returns-clause-arriving
+returns-clause-arriving c = samples_arriving
+
+pub returns-clause-ending : goal.returns-clause-ending
+returns-clause-ending c = samples_ending
