@@ -5,6 +5,7 @@ use cam_field::{Action, Cam, Ident, Timing};
 use command_codec::{Cancel, Control};
 use difi_data::DataRec;
 use difi_packet::{Packet, PacketKind};
+use difi_version::VersionRec;
 use vrt_fields::{Field, FieldSet};
 use vrt_header::{Header, Kind, Prologue};
 use vrt_time::Stamp;
@@ -241,6 +242,48 @@ fn a_data_packet_is_shown_with_its_pad(rt: HostRuntime) -> Result<(), NoMemory> 
     };
     push_under(rt.alloc(), &mut out, Listing::Show, &Packet::Data(packet));
     let text = b"  time 1700000000 s 000000000000 ps\n  count 7\n  pad 31\n  payload words 2\n";
+    assert_eq!(rt; out.as_slice(), text.as_slice());
+    Ok(())
+}
+
+// A version packet of stream 1 with this version word.
+fn version_of(word: u32) -> Packet<'static> {
+    Packet::Version(VersionRec {
+        prologue: prologue_of(Kind::Version),
+        changed: false,
+        spec: 0x1234_5678,
+        version: word,
+    })
+}
+
+#[test]
+fn year_revision_and_icd_of_a_version_have_seven_six_and_six_bits(
+    rt: HostRuntime,
+) -> Result<(), NoMemory> {
+    let mut out = TextBuffer::open(rt.alloc())?;
+    push_under(
+        rt.alloc(),
+        &mut out,
+        Listing::Show,
+        &version_of(0xFE00_FC3F),
+    );
+    let text =
+        b"  time none\n  count 0\n  changed no\n  spec 12345678\n  year 127 day 0 revision 63 type 0 icd 63\n";
+    assert_eq!(rt; out.as_slice(), text.as_slice());
+    Ok(())
+}
+
+#[test]
+fn day_and_type_of_a_version_have_nine_and_four_bits(rt: HostRuntime) -> Result<(), NoMemory> {
+    let mut out = TextBuffer::open(rt.alloc())?;
+    push_under(
+        rt.alloc(),
+        &mut out,
+        Listing::Show,
+        &version_of(0x01FF_03C0),
+    );
+    let text =
+        b"  time none\n  count 0\n  changed no\n  spec 12345678\n  year 0 day 511 revision 0 type 15 icd 0\n";
     assert_eq!(rt; out.as_slice(), text.as_slice());
     Ok(())
 }
