@@ -3,7 +3,6 @@ ghost use Rattle.release_form.specs.Positions.{word, double, quadruple};
 ghost use Rattle.release_form.specs.Layout.{IsPortAt, IsStampAt};
 
 use vrt_time::Stamp;
-
 pub(crate) use vrt_words::word_in;
 
 /// The number in two words, the high one first.
