@@ -15,7 +15,8 @@ use Rattle.cam_field.specs.declared.ident.Ident.{Ident}
 use Rattle.cam_field.specs.declared.ident.Ident.TheVariants as idents
 use Rattle.replay_form.specs.HeadFields.{IsStep, route_size, route_at, most_routes, first_magic, second_magic}
 use Rattle.replay_form.specs.HeadSpelling.{IsHeadStart, IsLimitSpelled, AreLimitsSpelled, IsRouteSpelled, AreRoutesSpelled, identity_form, identity_words, magic_of, size_of_head}
-use Rattle.replay_form.specs.HeadValues.{AreHeadValues, IsBound, IsRoute}
+use Rattle.replay_form.proofs.BoundLaws.{IsBound, bound_of_limit}
+use Rattle.replay_form.specs.HeadValues.{AreHeadValues, IsRoute}
 use Rattle.replay_form.specs.declared.record_head.RecordHead.{RecordHead}
 use Rattle.replay_form.specs.Numbers.{number_at, AreNumbers}
 use Rattle.replay_form.proofs.NumberLaws.{number_at-drop, number_at-append}
@@ -291,7 +292,7 @@ limits_there head values bound other h =
     let routes = blocks (route_bytes (head.form == 2)) head.routes in
     let size = length-blocks limit_bytes 28 head.bounds length-limit in
     let count = values.bounds_all in
-    limit_there (get_or head.bounds bound other) bound (head_bytes head) (head_bytes_fit head) (omega (arith, length-head_bytes head values)) (values.bounds bound other h)
+    limit_there (get_or head.bounds bound other) bound (head_bytes head) (head_bytes_fit head) (omega (arith, length-head_bytes head values)) (bound_of_limit bound (get_or head.bounds bound other) (values.bounds bound other h))
     (λ offset width inside. (
     let there : 28 * bound + offset + width ≤ length limits = omega arith in
     behind_words head (28 * bound + offset) width values ∙ number_at-append (28 * bound + offset) width limits routes there

@@ -19,7 +19,8 @@ use Rattle.replay_form.specs.HeadFields.{IsRightIn, IsGood, IsWholeHead, IsRoute
 use Rattle.replay_form.proofs.HeadLaws.{field_ends, field_behind, quotient, rest}
 use Rattle.replay_form.specs.HeadSpelling.{IsLimitSpelled, AreLimitsSpelled, IsSecondRoute, IsRouteSpelled, AreRoutesSpelled, identity_form, identity_words}
 use Rattle.replay_form.proofs.HeadSpellingLaws.{length-routes_in, route_here, bound_there}
-use Rattle.replay_form.specs.HeadValues.{AreHeadValues, IsBound, IsRoute, AreRoutes}
+use Rattle.replay_form.proofs.BoundLaws.{IsBound, bound_of_limit}
+use Rattle.replay_form.specs.HeadValues.{AreHeadValues, IsRoute, AreRoutes}
 use Rattle.replay_form.specs.declared.head_field.HeadField.TheVariants.{Magic, Initial, Stream}
 use Rattle.replay_form.specs.declared.record_head.RecordHead.{RecordHead}
 use Rattle.replay_form.proofs.HeadBytes.{AreHeadNumbers, head_bytes, head_bytes_fit, numbers_there}
@@ -205,7 +206,7 @@ module _ (head : RecordHead) (bytes : List ℕ) (values : AreHeadValues head) (n
       let bound = (k - 30) / 4 in
       let there : bound < 7 = omega arith in
       subst (λ field. IsRightIn second field bytes) (sym (field_bound second k g h))
-      (limit_rules second (get_or head.bounds bound no_limit) bound ((k - 30) % 4) bytes (values.bounds bound no_limit there) (numbers.bounds bound no_limit there) (omega arith))
+      (limit_rules second (get_or head.bounds bound no_limit) bound ((k - 30) % 4) bytes (bound_of_limit bound (get_or head.bounds bound no_limit) (values.bounds bound no_limit there)) (numbers.bounds bound no_limit there) (omega arith))
 
   route_rule : (k : ℕ) → 58 ≤ k → k < 58 + route_fields second * length head.routes → IsRightIn second (field_at second k) bytes
   route_rule k g h =
@@ -322,7 +323,7 @@ head_by_values head bytes values numbers =
       limits = limits_by head.limits _ _ _ _ start.data_window start.context_window start.kept start.pending;
       identity = identity_is head.identity bytes start.identity_told numbers.identity;
       initial = numbers.initial;
-      bounds = bounds_are head.bounds bytes values.bounds_all values.bounds numbers.bounds;
+      bounds = bounds_are head.bounds bytes values.bounds_all (λ bound other h. bound_of_limit bound (get_or head.bounds bound other) (values.bounds bound other h)) numbers.bounds;
       routes = routes_are (head.form == 2) head.routes (number_at 36 4 bytes) bytes start.routes_told values.routes numbers.routes
           ∙ ap (λ s. routes_in s (number_at 36 4 bytes) bytes) (sym form);
     }

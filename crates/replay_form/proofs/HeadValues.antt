@@ -14,7 +14,8 @@ use Rattle.replay_form.specs.HeadFields.{IsRightIn, IsWholeHead, is_second, fiel
 use Rattle.replay_form.proofs.HeadLaws.{whole_ranges, head_profile, route_good}
 use Rattle.replay_form.specs.HeadSpelling.{IsLimitSpelled, identity_words}
 use Rattle.replay_form.proofs.HeadSpellingLaws.{head_start, head_form, identity_spelled, limits_spelled, routes_spelled, bound_there, route_here, length-routes_in, number_below}
-use Rattle.replay_form.specs.HeadValues.{AreHeadValues, IsBound, IsRoute, AreRoutes}
+use Rattle.replay_form.proofs.BoundLaws.{IsBound, limit_of_bound}
+use Rattle.replay_form.specs.HeadValues.{AreHeadValues, IsRoute, AreRoutes}
 use Rattle.replay_form.specs.declared.head_field.HeadField.TheVariants.{Initial, Port, Stream}
 use Rattle.replay_form.specs.declared.record_head.RecordHead.{RecordHead}
 use Rattle.replay_form.proofs.FieldRules.{right_here}
@@ -207,8 +208,9 @@ values_by head bytes fit is =
             (initial_rule bytes place is.whole h);
       };
       bounds_all = ap length is.bounds;
-      bounds = λ bound other h. bound_by (get_or head.bounds bound other) bound bytes fit is.whole h (ap (λ bounds. get_or bounds bound other) is.bounds ∙ bound_there bytes bound other h)
-          (limits bound other h);
+      bounds = λ bound other h. limit_of_bound bound (get_or head.bounds bound other) h
+          (bound_by (get_or head.bounds bound other) bound bytes fit is.whole h (ap (λ bounds. get_or bounds bound other) is.bounds ∙ bound_there bytes bound other h)
+          (limits bound other h));
       routes = subst (λ s. AreRoutes s head.routes) form (routes_by head bytes fit is);
     }
 

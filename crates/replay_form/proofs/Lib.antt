@@ -1,3 +1,4 @@
+pub mod BoundLaws
 pub mod NumberLaws
 pub mod HeadLaws
 pub mod HeadSpellingLaws

@@ -1,14 +1,15 @@
 -- The rules of a header's values, whatever bytes say them.
 use Rattle.std.specs.Prelude.{◌≡◌, ◌≢◌, ℕ, ◌+◌, ◌-◌, ◌<◌, ◌≤◌, ◌^◌, ◌==◌, Bool, if◌then◌else◌, ◌⊎◌, List, length, slice_index, get_or}
-use Rattle.std.specs.Int.{w64}
-use Rattle.std.specs.Int.RustNames.{FitsSigned}
 use Rattle.vrt_words.specs.Words.{AreWords}
 use Rattle.vrt_header.specs.Profile.{IsProfile}
+use Rattle.vrt_fields.specs.declared.field.Field.{Field}
+use Rattle.vrt_fields.specs.declared.field.Field.TheVariants.{SampleRate}
 use Rattle.vrt_fields.specs.declared.limit.Limit.{Limit}
+use Rattle.vrt_fields.specs.Limit.{limited_fields, IsLimit}
 use Rattle.vrt_fields.specs.declared.route.Route.{Route}
 use Rattle.cam_field.specs.declared.ident.Ident.{Ident}
 use Rattle.vrt_fields.specs.Limits.{AreLimits}
-use Rattle.replay_form.specs.HeadFields.{IsRouteCount, IsInitialWord, IsStep, IsLeast, IsGreatest, most_pending}
+use Rattle.replay_form.specs.HeadFields.{IsRouteCount, IsInitialWord, most_pending}
 use Rattle.replay_form.specs.HeadSpelling.{identity_words}
 use Rattle.replay_form.specs.declared.record_head.RecordHead.{RecordHead}
 
@@ -23,14 +24,6 @@ pub record AreInitialWords (words : List ℕ) : Type 0 where
   pub fit : AreWords words
   pub rules : (place : ℕ) → place < 19 → IsInitialWord place (slice_index words (place - 1)) (slice_index words place)
 
--- where a command may set a field: in steps, from the least value to the greatest
-pub record IsBound (bound : ℕ) (limit : Limit) : Type 0 where
-  pub step : IsStep (if limit.settable then 1 else 0) limit.step
-  pub least : IsLeast bound (if limit.settable then 1 else 0) limit.step limit.least
-  pub greatest : IsGreatest bound (if limit.settable then 1 else 0) limit.step limit.least limit.greatest
-  pub least_fits : FitsSigned w64 limit.least
-  pub greatest_fits : FitsSigned w64 limit.greatest
-
 -- a stream goes to one port, in form 2 to up to four; each is another, and the others are 0
 pub record IsRoute (second : Bool) (route : Route) : Type 0 where
   pub stream : route.stream < 2 ^ 32
@@ -40,6 +33,10 @@ pub record IsRoute (second : Bool) (route : Route) : Type 0 where
   pub fit : (place : ℕ) → slice_index route.ports place < 2 ^ 16
   pub differ : (place earlier : ℕ) → place < route.number → earlier < place → slice_index route.ports earlier ≢ slice_index route.ports place
   pub behind : (place : ℕ) → route.number ≤ place → slice_index route.ports place ≡ 0
+
+-- the field of which a bound is
+abbrev pub limited_field : ℕ → Field
+limited_field bound = get_or limited_fields bound SampleRate
 
 -- routes of a form, by rising streams
 pub record AreRoutes (second : Bool) (routes : List Route) : Type 0 where
@@ -58,5 +55,5 @@ pub record AreHeadValues (head : RecordHead) : Type 0 where
   pub identity : AreIdentityWords head.identity
   pub initial : AreInitialWords head.initial
   pub bounds_all : length head.bounds ≡ 7
-  pub bounds : (bound : ℕ) (other : Limit) → bound < 7 → IsBound bound (get_or head.bounds bound other)
+  pub bounds : (bound : ℕ) (other : Limit) → bound < 7 → IsLimit (limited_field bound) (get_or head.bounds bound other)
   pub routes : AreRoutes (head.form == 2) head.routes
