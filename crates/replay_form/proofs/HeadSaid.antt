@@ -19,6 +19,7 @@ use Rattle.replay_form.specs.HeadFields.{IsRightIn, IsGood, IsWholeHead, IsRoute
 use Rattle.replay_form.proofs.HeadLaws.{field_ends, field_behind, quotient, rest}
 use Rattle.replay_form.specs.HeadSpelling.{IsLimitSpelled, AreLimitsSpelled, IsSecondRoute, IsRouteSpelled, AreRoutesSpelled, identity_form, identity_words}
 use Rattle.replay_form.proofs.HeadSpellingLaws.{length-routes_in, route_here, bound_there}
+use Rattle.replay_form.proofs.InitialLaws.{rule_of_word}
 use Rattle.replay_form.proofs.BoundLaws.{IsBound, bound_of_limit}
 use Rattle.replay_form.specs.HeadValues.{AreHeadValues, IsRoute, AreRoutes}
 use Rattle.replay_form.specs.declared.head_field.HeadField.TheVariants.{Magic, Initial, Stream}
@@ -99,7 +100,7 @@ first_rules head bytes (suc (suc (suc (suc (suc (suc (suc (suc (suc (suc (suc k)
 
 initial_rules : (head : RecordHead) (bytes : List ℕ) (place : ℕ) → AreHeadValues head → AreHeadNumbers head bytes → place < 19 → IsRightIn (head.form == 2) (Initial place) bytes
 initial_rules head bytes place values numbers h =
-    initial_by (λ k. numbers.initial.each (place - 1) (omega arith) ∙ ap (λ o. number_at o 4 bytes) (omega arith)) (numbers.initial.each place h) (values.initial.rules place h)
+    initial_by (λ k. numbers.initial.each (place - 1) (omega arith) ∙ ap (λ o. number_at o 4 bytes) (omega arith)) (numbers.initial.each place h) (rule_of_word head.initial place values.initial)
 
 -- the bounds
 pub least_read : (limit : Limit) (bound : ℕ) (bytes : List ℕ) → IsBound bound limit → IsLimitSpelled limit bound bytes → limit.least ≡ signed_at (148 + 28 * bound) bytes

@@ -10,7 +10,7 @@ use Rattle.vrt_header.specs.Profile.{IsProfile}
 use Rattle.vrt_fields.specs.declared.limit.Limit.{Limit}
 use Rattle.replay_form.specs.Numbers.{number_at, signed_at, AreNumbers}
 use Rattle.replay_form.specs.Head.{IsHead, IsSpelledHead, form_number, limit_in, ports_in, route_in}
-use Rattle.replay_form.specs.HeadFields.{IsRightIn, IsWholeHead, is_second, field_at, field_count, bound_field, route_at, port_at, route_fields, route_field, most_pending}
+use Rattle.replay_form.specs.HeadFields.{IsInitialWord, IsRightIn, IsWholeHead, is_second, field_at, field_count, bound_field, route_at, port_at, route_fields, route_field, most_pending}
 use Rattle.replay_form.proofs.HeadLaws.{whole_ranges, head_profile, route_good}
 use Rattle.replay_form.specs.HeadSpelling.{IsLimitSpelled, identity_words}
 use Rattle.replay_form.proofs.HeadSpellingLaws.{head_start, head_form, identity_spelled, limits_spelled, routes_spelled, bound_there, route_here, length-routes_in, number_below}
@@ -185,6 +185,9 @@ values_by head bytes fit is =
     let ranges = whole_ranges bytes is.whole in
     let form = sym (head_form head bytes is) in
     let identity = identity_spelled head.identity bytes is.whole is.identity in
+    let rule : (place : ℕ) → place < 19 → IsInitialWord place (slice_index head.initial (place - 1)) (slice_index head.initial place) =
+        λ place h. initial_by (λ k. ap (λ o. number_at o 4 bytes) (omega arith) ∙ sym (is.initial.each (place - 1) (omega arith))) (sym (is.initial.each place h))
+        (initial_rule bytes place is.whole h) in
     let limits = limits_spelled head bytes fit is in record {
       form = form_either (is_second bytes) head.form is.form;
       profile = subst IsProfile (sym is.profile) (head_profile bytes ranges);
@@ -204,8 +207,9 @@ values_by head bytes fit is =
       initial = record {
         all = is.initial.all;
         fit = are_words head.initial 60 19 bytes fit is.initial;
-        rules = λ place h. initial_by (λ k. ap (λ o. number_at o 4 bytes) (omega arith) ∙ sym (is.initial.each (place - 1) (omega arith))) (sym (is.initial.each place h))
-            (initial_rule bytes place is.whole h);
+        rate = record { positive = (rule 11 (omega arith)).rate_high refl; least = (rule 12 (omega arith)).rate_low refl };
+        format_first = (rule 17 (omega arith)).format_first refl;
+        format_second = (rule 18 (omega arith)).format_second refl;
       };
       bounds_all = ap length is.bounds;
       bounds = λ bound other h. limit_of_bound bound (get_or head.bounds bound other) h

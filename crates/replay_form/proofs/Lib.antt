@@ -1,4 +1,5 @@
 pub mod BoundLaws
+pub mod InitialLaws
 pub mod NumberLaws
 pub mod HeadLaws
 pub mod HeadSpellingLaws

@@ -3,13 +3,16 @@ use Rattle.std.specs.Prelude.{◌≡◌, ◌≢◌, ℕ, ◌+◌, ◌-◌, ◌<�
 use Rattle.vrt_words.specs.Words.{AreWords}
 use Rattle.vrt_header.specs.Profile.{IsProfile}
 use Rattle.vrt_fields.specs.declared.field.Field.{Field}
-use Rattle.vrt_fields.specs.declared.field.Field.TheVariants.{SampleRate}
+use Rattle.vrt_fields.specs.declared.field.Field.TheVariants.{SampleRate, Format}
+use Rattle.vrt_fields.specs.Field.{place_of}
+use Rattle.vrt_fields.specs.FieldWords.{IsRate}
+use Rattle.vrt_fields.specs.Format.{IsFormatFirst, IsFormatSecond}
 use Rattle.vrt_fields.specs.declared.limit.Limit.{Limit}
 use Rattle.vrt_fields.specs.Limit.{limited_fields, IsLimit}
 use Rattle.vrt_fields.specs.declared.route.Route.{Route}
 use Rattle.cam_field.specs.declared.ident.Ident.{Ident}
 use Rattle.vrt_fields.specs.Limits.{AreLimits}
-use Rattle.replay_form.specs.HeadFields.{IsRouteCount, IsInitialWord, most_pending}
+use Rattle.replay_form.specs.HeadFields.{IsRouteCount, most_pending}
 use Rattle.replay_form.specs.HeadSpelling.{identity_words}
 use Rattle.replay_form.specs.declared.record_head.RecordHead.{RecordHead}
 
@@ -18,11 +21,13 @@ pub record AreIdentityWords (identity : Ident) : Type 0 where
   pub four : length (identity_words identity) ≡ 4
   pub fit : AreWords (identity_words identity)
 
--- the words of the initial fields: those of the rate and of the payload format have rules
+-- the words of the initial fields, of which the rate and the payload format have rules
 pub record AreInitialWords (words : List ℕ) : Type 0 where
   pub all : length words ≡ 19
   pub fit : AreWords words
-  pub rules : (place : ℕ) → place < 19 → IsInitialWord place (slice_index words (place - 1)) (slice_index words place)
+  pub rate : IsRate (slice_index words (place_of SampleRate)) (slice_index words (place_of SampleRate + 1))
+  pub format_first : IsFormatFirst (slice_index words (place_of Format))
+  pub format_second : IsFormatSecond (slice_index words (place_of Format + 1))
 
 -- a stream goes to one port, in form 2 to up to four; each is another, and the others are 0
 pub record IsRoute (second : Bool) (route : Route) : Type 0 where
