@@ -69,8 +69,7 @@ fits_by false field limit e h = let shut = h.shut e in (zero_fits limit.least sh
 fits_by true field limit e h =
     let within = h.within e in
     let low : negsuc (2 ^ 63 - 1) ≤ℤ limit.least = ≤ℤ-through _ _ _ (least_own field) within.not_below in
-    let high : limit.greatest ≤ℤ pos (2 ^ 63 - 1) = ≤ℤ-through _ _ _ within.not_above (greatest_own field) in
-    (
+    let high : limit.greatest ≤ℤ pos (2 ^ 63 - 1) = ≤ℤ-through _ _ _ within.not_above (greatest_own field) in (
       fits_between limit.least low (≤ℤ-through _ _ _ within.in_order high),
       fits_between limit.greatest (≤ℤ-through _ _ _ low within.in_order) high,
     )

@@ -186,8 +186,8 @@ values_by head bytes fit is =
     let form = sym (head_form head bytes is) in
     let identity = identity_spelled head.identity bytes is.whole is.identity in
     let rule : (place : ℕ) → place < 19 → IsInitialWord place (slice_index head.initial (place - 1)) (slice_index head.initial place) =
-        λ place h. initial_by (λ k. ap (λ o. number_at o 4 bytes) (omega arith) ∙ sym (is.initial.each (place - 1) (omega arith))) (sym (is.initial.each place h))
-        (initial_rule bytes place is.whole h) in
+    λ place h. initial_by (λ k. ap (λ o. number_at o 4 bytes) (omega arith) ∙ sym (is.initial.each (place - 1) (omega arith))) (sym (is.initial.each place h))
+    (initial_rule bytes place is.whole h) in
     let limits = limits_spelled head bytes fit is in record {
       form = form_either (is_second bytes) head.form is.form;
       profile = subst IsProfile (sym is.profile) (head_profile bytes ranges);

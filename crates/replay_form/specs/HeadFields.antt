@@ -1,5 +1,7 @@
 -- The fields of a record's header in the order of layout: where each stands, and its rule.
 use Rattle.std.specs.Prelude.{◌≡◌, ◌≢◌, ℕ, ◌+◌, ◌-◌, ◌*◌, ◌/◌, ◌%◌, ◌^◌, ◌<◌, ◌≤◌, ◌==◌, ◌&&◌, nat_lt, nat_le, Bool, true, false, if◌then◌else◌, ◌⊎◌, List, [], ◌∷◌, length, take, get_or, ℤ, pos, negsuc, ◌≤ℤ◌, unsigned_abs}
+use Rattle.vrt_fields.specs.declared.field.Field.TheVariants.{SampleRate, Format}
+use Rattle.vrt_fields.specs.Field.{place_of}
 use Rattle.vrt_fields.specs.Format.{IsFormatFirst, IsFormatSecond}
 use Rattle.replay_form.specs.Numbers.{number_at, signed_at}
 use Rattle.replay_form.specs.declared.head_field.HeadField.{HeadField}
@@ -124,10 +126,10 @@ pub record IsIdentityField (form word second third fourth : ℕ) : Type 0 where
 
 -- a word of the initial fields, with the one in front of it: those of the rate and of the payload format have rules
 pub record IsInitialWord (place before word : ℕ) : Type 0 where
-  pub rate_high : place ≡ 11 → word < 2 ^ 31
-  pub rate_low : place ≡ 12 → 2 ^ 20 ≤ before * 2 ^ 32 + word
-  pub format_first : place ≡ 17 → IsFormatFirst word
-  pub format_second : place ≡ 18 → IsFormatSecond word
+  pub rate_high : place ≡ place_of SampleRate → word < 2 ^ 31
+  pub rate_low : place ≡ place_of SampleRate + 1 → 2 ^ 20 ≤ before * 2 ^ 32 + word
+  pub format_first : place ≡ place_of Format → IsFormatFirst word
+  pub format_second : place ≡ place_of Format + 1 → IsFormatSecond word
 
 -- the fields that are one signed number of 16 bits: reference level and gain
 abbrev pub IsHalf : ℕ → Type 0

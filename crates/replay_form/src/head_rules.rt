@@ -4,13 +4,19 @@ ghost use Rattle.replay_form.specs.Numbers.{number_at, signed_at};
 
 use crate::head_field::{HeadField, start_of_port, start_of_route};
 use crate::numbers::{i64_at, u16_at, u32_at, u64_at};
-use vrt_fields::PayloadFormat;
+use vrt_fields::{FORMAT_WORD, PayloadFormat, RATE_WORD};
 
 /// The first eight bytes of a record of form 1, "DIFIREC1", as a number.
 pub(crate) const FIRST_MAGIC: u64 = 0x4449_4649_5245_4331;
 
 /// The first eight bytes of a record of form 2, "DIFIREC2", as a number.
 pub(crate) const SECOND_MAGIC: u64 = 0x4449_4649_5245_4332;
+
+/// The second word of the rate among the words of all fields.
+const RATE_LOW_WORD: usize = RATE_WORD + 1;
+
+/// The second word of the payload format among them.
+const FORMAT_SECOND_WORD: usize = FORMAT_WORD + 1;
 
 /// Whether a field is right, which depends on the bytes up to its end alone.
 pub(crate) fn is_right(second: bool, field: HeadField, front: &[u8]) -> bool
@@ -89,11 +95,11 @@ fn is_initial(word: u32, front: &[u8]) -> bool
 fn is_initial_word(place: u32, before: u32, word: u32) -> bool
     ensures { IsTrue result ↔ IsInitialWord place before word }
 {
-    match place {
-        11 => word < 1 << 31,
-        12 => before != 0 || word >= 1 << 20,
-        17 => PayloadFormat::read(word, 0).is_ok(),
-        18 => word == 0,
+    match place as usize {
+        RATE_WORD => word < 1 << 31,
+        RATE_LOW_WORD => before != 0 || word >= 1 << 20,
+        FORMAT_WORD => PayloadFormat::read(word, 0).is_ok(),
+        FORMAT_SECOND_WORD => word == 0,
         _ => true,
     }
 }
