@@ -1,6 +1,6 @@
 -- The words that a writer puts in front of the variable part.
 use Rattle.std.specs.Prelude.{◌≡◌, ℕ, ◌/◌, ◌%◌, ◌^◌, ◌<◌, List, [], ◌∷◌, ◌++◌, length, Option, Some, None, IfSome, flat_map}
-use Rattle.vrt_time.specs.Time.{TimeStamp}
+use Rattle.vrt_time.specs.Time.{TimeStamp, parts_of}
 use Rattle.sample_binder.specs.declared.reason.Reason.{Reason}
 use Rattle.sample_binder.specs.declared.run.Run.{Run}
 use Rattle.sample_binder.specs.declared.run.Run.TheVariants.{Bound, Uncertain, Raw}
@@ -15,9 +15,6 @@ high_word n = n / 2 ^ 32
 abbrev pub low_word : ℕ → ℕ
 low_word n = n % 2 ^ 32
 
-abbrev pub stamp_words : TimeStamp → List ℕ
-stamp_words stamp = stamp.seconds ∷ high_word stamp.picos ∷ low_word stamp.picos ∷ []
-
 abbrev pub moment_words : ℕ → List ℕ
 moment_words n = high_word (n / 2 ^ 64) ∷ low_word (n / 2 ^ 64) ∷ high_word (n % 2 ^ 64) ∷ low_word (n % 2 ^ 64) ∷ []
 
@@ -26,16 +23,16 @@ reason_words reason = number_of reason ∷ detail_of reason ∷ []
 
 abbrev pub late_words : Option TimeStamp → List ℕ
 late_words None = 0 ∷ 0 ∷ 0 ∷ []
-late_words (Some stamp) = stamp_words stamp
+late_words (Some stamp) = parts_of stamp
 
 abbrev pub count_words : List ℕ → List ℕ
 count_words counts = flat_map (λ count. high_word count ∷ low_word count ∷ []) counts
 
 -- behind the kind, the length, the stream, the port and the number lost
 abbrev pub run_words : Run → List ℕ
-run_words (Bound stamp first number moment fields bits) = stamp_words stamp ++ (first ∷ number ∷ (moment_words moment ++ fields))
-run_words (Uncertain reason stamp first number moment bits) = reason_words reason ++ (stamp_words stamp ++ (first ∷ number ∷ moment_words moment))
-run_words (Raw reason stamp pad) = reason_words reason ++ (stamp_words stamp ++ (pad ∷ []))
+run_words (Bound stamp first number moment fields bits) = parts_of stamp ++ (first ∷ number ∷ (moment_words moment ++ fields))
+run_words (Uncertain reason stamp first number moment bits) = reason_words reason ++ (parts_of stamp ++ (first ∷ number ∷ moment_words moment))
+run_words (Raw reason stamp pad) = reason_words reason ++ (parts_of stamp ++ (pad ∷ []))
 
 abbrev pub words_behind : Shown → List ℕ
 words_behind (ARun stream port lost run) = stream ∷ port ∷ lost ∷ run_words run

@@ -1,8 +1,9 @@
 ghost use Rattle.std.specs.Prelude.{◌≡◌, ℕ, ◌+◌, ◌*◌, ◌≤◌, [], ◌∷◌, ◌++◌, IfSome, length, take, drop};
 ghost use Rattle.vrt_words.specs.Words.{words_of};
+ghost use Rattle.vrt_time.specs.Time.{parts_of};
 ghost use Rattle.sample_binder.specs.Reasons.{number_of, detail_of};
 ghost use Rattle.release_form.specs.Layout.{front_of, front_of_run, kind_of};
-ghost use Rattle.release_form.specs.Front.{high_word, low_word, front_words, run_words, stamp_words, moment_words, late_words, count_words, IsTyped, IsTypedRun, IsStampTyped};
+ghost use Rattle.release_form.specs.Front.{high_word, low_word, front_words, run_words, moment_words, late_words, count_words, IsTyped, IsTypedRun, IsStampTyped};
 
 use crate::shown::Shown;
 use sample_binder::{Reason, Run};
@@ -99,7 +100,7 @@ fn put_run(run: &Run, into: &mut [u8])
 fn put_span(into: &mut [u8], position: usize, stamp: &Stamp, samples: [u32; 2], at: &Moment)
     requires { 4 * (position + 9) ≤ length into.old }
     ensures words { words_of (take (4 * (position + 9)) into.new)
-        ≡ words_of (take (4 * position) into.old) ++ (stamp_words stamp.now ++ (samples ++ moment_words at.now)) }
+        ≡ words_of (take (4 * position) into.old) ++ (parts_of stamp.now ++ (samples ++ moment_words at.now)) }
     ensures behind { (n : ℕ) → 4 * (position + 9) ≤ n → drop n into.new ≡ drop n into.old }
     ensures typed { IsStampTyped stamp.now }
 {
@@ -171,7 +172,7 @@ fn numbers_of(reason: Reason) -> [u32; 2]
 
 // The seconds, and the picoseconds in two words.
 fn words_of_stamp(stamp: &Stamp) -> [u32; 3]
-    ensures words { result ≡ stamp_words stamp.now }
+    ensures words { result ≡ parts_of stamp.now }
     ensures typed { IsStampTyped stamp.now }
 {
     let picos = stamp.picos();

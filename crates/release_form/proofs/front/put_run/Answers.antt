@@ -1,6 +1,7 @@
 use Rattle.std.proofs.Common.{◌≡◌, ◌+◌, ◌*◌, ◌∷◌, ◌++◌, ◌∙◌, ap, length, take, append_assoc, arith}
 use Rattle.vrt_words.specs.Words.{words_of}
-use Rattle.release_form.specs.Front.{reason_words, stamp_words, moment_words}
+use Rattle.vrt_time.specs.Time.{parts_of}
+use Rattle.release_form.specs.Front.{reason_words, moment_words}
 use Rattle.release_form.proofs.front.put_run.Goals as goal
 
 pub returns-in-Bound-clause-behind : goal.returns-in-Bound-clause-behind
@@ -24,7 +25,7 @@ returns-in-Uncertain-clause-words c =
     let a = c.in-Uncertain in
     let why = c.numbers_of.ensures in
     let front = words_of (take 20 c.args.into.now) in
-    let rest = stamp_words a.stamp ++ (a.first ∷ a.number ∷ moment_words a.at) in
+    let rest = parts_of a.stamp ++ (a.first ∷ a.number ∷ moment_words a.at) in
     let size : 28 ≡ 4 * (5 + length c.numbers_of.result) = omega (arith, ap length why) in
     let first : words_of (take 28 c.put_next-in-Uncertain.new.into) ≡ front ++ reason_words a.reason =
     ap (λ n. words_of (take n c.put_next-in-Uncertain.new.into)) size ∙ c.put_next-in-Uncertain.ensures.words ∙ ap (λ xs. front ++ xs) why in
