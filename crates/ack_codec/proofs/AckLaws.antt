@@ -16,6 +16,8 @@ use Rattle.ack_codec.specs.Ack.{front_of, kind_bit, IsContent, IsAck}
 use Rattle.ack_codec.specs.Steps.{left_of, IsAckFront, IsBegunKind, IsBegun, IsCutAt}
 use Rattle.ack_codec.specs.declared.ack.Ack.{Ack}
 use Rattle.ack_codec.proofs.ContentLaws.{one_content}
+use Rattle.ack_codec.proofs.SizeLaws.{sized}
+use Rattle.command_prologue.proofs.FrontLaws.{front_alone}
 use Rattle.ack_codec.proofs.GrowthLaws.{GoesOn, AckWith, begun_content, next_kind, content_of_kind, begun_short, begun_start}
 
 module _ (profile : PacketProfile) where
@@ -40,8 +42,8 @@ module _ (profile : PacketProfile) where
   -- words are one acknowledgement
   pub one_ack : (a b : Ack) (words : List ℕ) → IsAck profile a words → IsAck profile b words → a ≡ b
   one_ack a b words p q =
-      let e = one_front (front_of a) (front_of b) (command_words (front_of a)) (command_words (front_of b)) words p.front q.front in
-      let leaves = front_leaves (front_of a) (take (command_words (front_of a)) words) p.front in
+      let e = one_front (front_of a) (front_of b) (command_words (front_of a)) (command_words (front_of b)) words (sized profile a words p) (sized profile b words q) in
+      let leaves = front_leaves (front_of a) (take (command_words (front_of a)) words) (sized profile a words p) in
       one_content a b (drop (command_words (front_of a)) words) leaves.asked e p.kind q.kind p.content
       (subst (λ (f : CommandPrologue). IsContent b (drop (command_words f) words)) (sym e) q.content)
 
@@ -51,10 +53,10 @@ module _ (profile : PacketProfile) where
       let all = start ++ (words ++ rest) in
       let long = command_length profile roles.Ack front start is in
       let first : take (command_words front) all ≡ start = take_at start (words ++ rest) (command_words front) long in
-      let e = one_front (front_of ack) front (command_words (front_of ack)) (command_words front) all whole.front (subst (IsCommandPrologue profile roles.Ack front) (sym first) is) in
+      let e = one_front (front_of ack) front (command_words (front_of ack)) (command_words front) all (sized profile ack all whole) (subst (IsCommandPrologue profile roles.Ack front) (sym first) is) in
       let behind : drop (command_words (front_of ack)) all ≡ words ++ rest = ap (λ (f : CommandPrologue). drop (command_words f) all) e ∙ drop_at start (words ++ rest) (command_words front) long in
       let size : left_of (front_of ack) ≡ length (words ++ rest) = omega (arith, whole.size, length-append start (words ++ rest), long, ap command_words e) in
-      let leaves = front_leaves (front_of ack) (take (command_words (front_of ack)) all) whole.front in
+      let leaves = front_leaves (front_of ack) (take (command_words (front_of ack)) all) (sized profile ack all whole) in
       let begun = begun_content ack words rest leaves.asked whole.kind (subst (IsContent ack) behind whole.content) in
       subst (λ (f : CommandPrologue). IsBegun f words) e
       (subst (λ n. IsBegunKind (front_of ack).cam.s (front_of ack).cam.warned (front_of ack).cam.erred n words) (sym size) begun)
@@ -74,7 +76,7 @@ module _ (profile : PacketProfile) where
       let size : front.prologue.header.size ≡ length (start ++ words) = omega (arith, leaves.inside, long, all, length-append start words) in (
         ack,
         record {
-          front = subst (IsCommandPrologue profile roles.Ack (front_of ack)) (sym first) (subst (λ (f : CommandPrologue). IsCommandPrologue profile roles.Ack f start) (sym e) is);
+          front = front_alone profile roles.Ack (front_of ack) _ (subst (IsCommandPrologue profile roles.Ack (front_of ack)) (sym first) (subst (λ (f : CommandPrologue). IsCommandPrologue profile roles.Ack f start) (sym e) is));
           kind = with_front.kind;
           size = ap (λ (f : CommandPrologue). f.prologue.header.size) e ∙ size;
           content = subst (IsContent ack) (sym behind) with_front.content;
@@ -92,7 +94,7 @@ module _ (profile : PacketProfile) where
 
   grown : AreGrown (IsCommandPrologue profile roles.Ack) (IsAck profile) IsBegun left_of
   grown = record {
-    front = λ ack words h. (front_of ack, (command_words (front_of ack), h.front));
+    front = λ ack words h. (front_of ack, (command_words (front_of ack), sized profile ack words h));
     sound = sound;
     start = λ front start is. begun_start front.cam.s front.cam.warned front.cam.erred (left_of front) (front_leaves front start is).allowed;
     next = next_word;
@@ -114,7 +116,7 @@ module _ (profile : PacketProfile) where
       subst (IsRefused (IsAck profile) bytes) (sym cut.told)
       (refused_datagram (IsCommandPrologue profile roles.Ack) (IsAck profile) IsBegun left_of grown front bytes (command_words front) cut.behind fit inside is cut.stopped
       (λ e ack d.
-      let same = one_front (front_of ack) front (command_words (front_of ack)) (command_words front) words d.packet.front is in
+      let same = one_front (front_of ack) front (command_words (front_of ack)) (command_words front) words (sized profile ack words d.packet) is in
       let size : front.prologue.header.size ≡ length words = ap (λ (f : CommandPrologue). f.prologue.header.size) (sym same) ∙ d.packet.size in
       cut.unfinished (cut.told ∙ e) (omega (arith, d.whole, size))))
 
@@ -130,7 +132,7 @@ module _ (profile : PacketProfile) where
       record {
         whole = omega arith;
         packet = record {
-          front = subst (λ (f : CommandPrologue). IsCommandPrologue profile roles.Ack f (take (command_words f) words)) e is;
+          front = front_alone profile roles.Ack (front_of ack) _ (subst (λ (f : CommandPrologue). IsCommandPrologue profile roles.Ack f (take (command_words f) words)) e is);
           kind = kind;
           size = ap (λ (f : CommandPrologue). f.prologue.header.size) same ∙ all;
           content = subst (λ (f : CommandPrologue). IsContent ack (drop (command_words f) words)) e content;

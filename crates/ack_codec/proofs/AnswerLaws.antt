@@ -1,8 +1,8 @@
 -- Responses made of one answer or None for each field.
-use Rattle.std.proofs.Common.{◌≡◌, ◌≢◌, ℕ, ◌↔◌, get_or, map, Some, None, refl, sym, ap, ◌∙◌, arith}
+use Rattle.std.proofs.Common.{◌≡◌, ◌≢◌, ℕ, ◌↔◌, get_or, map, Some, None, ap, ◌∙◌, arith}
 use Rattle.std.proofs.lemmas.List.{get_or-map, length-map}
 use Rattle.vrt_fields.specs.declared.field.Field.{Field}
-use Rattle.vrt_fields.specs.FieldSet.{FieldValues, IsFieldSet, bit_in, index_of, mask_of, value_of}
+use Rattle.vrt_fields.specs.FieldSet.{FieldValues, IsFieldSet, bit_in, index_of, value_of}
 use Rattle.vrt_fields.proofs.FieldLaws.{bit_where_there, few, no_bit_where_none}
 use Rattle.vrt_fields.proofs.FieldSetLaws.{mask_is_of_fields}
 use Rattle.ack_codec.specs.Responses.{AreResponses, answered, responses_of}

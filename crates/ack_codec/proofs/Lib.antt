@@ -2,6 +2,7 @@ pub mod ResponseLaws
 pub mod AnswerLaws
 pub mod ContentLaws
 pub mod GrowthLaws
+pub mod SizeLaws
 pub mod AckLaws
 pub mod SpellingLaws
 pub mod CutLemmas

@@ -7,8 +7,9 @@ use Rattle.vrt_words.proofs.WordLaws.{words_of-words, one_spelling, AreWords-tak
 use Rattle.vrt_header.specs.Profile.{PacketProfile}
 use Rattle.cam_field.specs.declared.modes.Role.TheVariants as roles
 use Rattle.command_prologue.specs.CommandPrologue.{command_words}
-use Rattle.command_prologue.proofs.CommandPrologueLaws.{command_length}
 use Rattle.command_prologue.proofs.SpellingLaws.{one_words}
+use Rattle.command_prologue.proofs.FrontLaws.{length-front}
+use Rattle.ack_codec.proofs.SizeLaws.{sized}
 use Rattle.ack_codec.specs.Ack.{front_of, IsContent, IsAck}
 use Rattle.ack_codec.specs.Steps.{content_words}
 use Rattle.ack_codec.specs.declared.ack.Ack.{Ack}
@@ -31,13 +32,13 @@ pub sizes : (profile : PacketProfile) (ack : Ack) (words : List ℕ) → IsAck p
     → (front_of ack).prologue.header.size ≡ command_words (front_of ack) + length (content_words ack)
 sizes profile ack words h =
     let n = command_words (front_of ack) in
-    let long = command_length profile roles.Ack (front_of ack) (take n words) h.front in
+    let long = length-front profile roles.Ack (front_of ack) (take n words) h.front in
     omega (arith, h.size, long, length-take n words, length-drop n words, ap length (content_told ack (drop n words) h.content))
 
 one_list : (profile : PacketProfile) (ack : Ack) (a b : List ℕ) → AreWords a → AreWords b → IsAck profile ack a → IsAck profile ack b → a ≡ b
 one_list profile ack a b fit fit' p q =
     let n = command_words (front_of ack) in
-    let front = one_words profile roles.Ack (front_of ack) (take n a) (take n b) (AreWords-take n a fit) (AreWords-take n b fit') p.front q.front in
+    let front = one_words profile roles.Ack (front_of ack) (take n a) (take n b) (AreWords-take n a fit) (AreWords-take n b fit') (sized profile ack a p) (sized profile ack b q) in
     sym (spelled profile ack a p) ∙ ap (λ xs. xs ++ content_words ack) front ∙ spelled profile ack b q
 
 pub one_datagram : (profile : PacketProfile) (ack : Ack) (a b : List ℕ) → AreBytes a → AreBytes b

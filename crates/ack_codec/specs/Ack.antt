@@ -3,7 +3,7 @@ use Rattle.std.specs.Prelude.{◌≡◌, ℕ, Bool, true, false, List, [], ◌�
 use Rattle.vrt_header.specs.Profile.{PacketProfile}
 use Rattle.vrt_fields.specs.FieldSet.{IsFieldSet, mask_of, words_of_set}
 use Rattle.cam_field.specs.declared.modes.Role.TheVariants as roles
-use Rattle.command_prologue.specs.CommandPrologue.{IsCommandPrologue, command_words}
+use Rattle.command_prologue.specs.CommandPrologue.{IsFront, command_words}
 use Rattle.command_prologue.specs.declared.prologue.CommandPrologue.{CommandPrologue}
 use Rattle.ack_codec.specs.Responses.{AreResponses, listed_words}
 use Rattle.ack_codec.specs.declared.responses.Responses.{Responses}
@@ -82,8 +82,8 @@ IsContent (S state) words = IsState state words
 
 -- these words, and no others, are an acknowledgement
 pub record IsAck (profile : PacketProfile) (ack : Ack) (words : List ℕ) : Type 0 where
-  pub front : IsCommandPrologue profile roles.Ack (front_of ack) (take (command_words (front_of ack)) words)
+  pub front : IsFront profile roles.Ack (front_of ack) (take (command_words (front_of ack)) words)
   pub kind : kind_bit ack ≡ true
+  pub content : IsContent ack (drop (command_words (front_of ack)) words)
   -- the size counts all the words
   pub size : (front_of ack).prologue.header.size ≡ length words
-  pub content : IsContent ack (drop (command_words (front_of ack)) words)

@@ -1,5 +1,5 @@
 -- Laws of cancellations: words are one at most, and are refused in the prologue, at CIF0 or at the end.
-use Rattle.std.proofs.Common.{◌≡◌, ℕ, suc, ◌+◌, ◌*◌, ◌^◌, ◌<◌, List, [], ◌∷◌, ◌++◌, length, take, drop, Result, Ok, Err, IfOk, IfErr, sym, ap, ◌∙◌, subst, length-append, length-drop, take-append-drop, arith}
+use Rattle.std.proofs.Common.{◌≡◌, ℕ, suc, ◌+◌, ◌*◌, ◌^◌, ◌<◌, List, [], ◌∷◌, ◌++◌, length, take, drop, Result, Ok, Err, IfOk, IfErr, refl, sym, ap, ◌∙◌, subst, length-append, length-drop, take-append-drop, arith}
 use Rattle.std.proofs.lemmas.List.{length-take, take_at, drop_at, nil_from_length}
 use Rattle.vrt_words.specs.Words.{words_of, AreWords, AreBytes}
 use Rattle.vrt_words.specs.Begins.{IsDatagram, IsRefused}
@@ -10,6 +10,7 @@ use Rattle.vrt_fields.proofs.MaskLaws.{mask_of_number}
 use Rattle.cam_field.specs.declared.modes.Role.TheVariants as roles
 use Rattle.command_prologue.specs.CommandPrologue.{IsCommandPrologue, command_words}
 use Rattle.command_prologue.proofs.CommandPrologueLaws.{one_in_front, command_length, content_left, same_head}
+use Rattle.command_prologue.proofs.FrontLaws.{length-front, front_alone, front_with_room}
 use Rattle.command_prologue.proofs.SpellingLaws as front_spelling
 use Rattle.command_prologue.specs.declared.prologue.CommandPrologue.{CommandPrologue}
 use Rattle.vrt_words.specs.declared.place.Place.{Place}
@@ -27,9 +28,18 @@ same_cancel a b front named =
     same_parts a b (ap (λ (f : CommandPrologue). f.prologue) front) (ap (λ (f : CommandPrologue). f.cam) front) (ap (λ (f : CommandPrologue). f.message) front)
     (ap (λ (f : CommandPrologue). f.controllee) front) (ap (λ (f : CommandPrologue). f.controller) front) named
 
+-- the words in front leave room for CIF0
+pub sized : (profile : PacketProfile) (packet : Cancel) (words : List ℕ) → IsCancel profile packet words
+    → IsCommandPrologue profile roles.Cancel (front_of packet) (take (command_words (front_of packet)) words)
+sized profile packet words h =
+    let m = command_words (front_of packet) in
+    let front = length-front profile roles.Cancel (front_of packet) (take m words) h.front in
+    let all : length words ≡ m + 1 = omega (arith, front, length-take m words, length-drop m words, ap length h.content) in
+    front_with_room profile roles.Cancel (front_of packet) (take m words) 1 h.front (h.size ∙ all) refl
+
 pub one_cancel : (profile : PacketProfile) (a b : Cancel) (words : List ℕ) → IsCancel profile a words → IsCancel profile b words → a ≡ b
 one_cancel profile a b words p q =
-    let front = one_in_front profile roles.Cancel (front_of a) (front_of b) (command_words (front_of a)) (command_words (front_of b)) words p.front q.front in
+    let front = one_in_front profile roles.Cancel (front_of a) (front_of b) (command_words (front_of a)) (command_words (front_of b)) words (sized profile a words p) (sized profile b words q) in
     let theirs : drop (command_words (front_of a)) words ≡ b.named ∷ [] = ap (λ (f : CommandPrologue). drop (command_words f) words) front ∙ q.content in
     same_cancel a b front (same_head a.named b.named [] [] (sym p.content ∙ theirs)).0
 
@@ -60,7 +70,7 @@ made profile front words named rest is only size =
     let left = content_left profile roles.Cancel front words is in
     let none : rest ≡ [] = nil_from_length rest (omega (arith, size, left.1.0, left.1.1)) in
     record {
-      front = subst (IsCommandPrologue profile roles.Cancel front) (sym (take_at words (named ∷ rest) m long)) is;
+      front = front_alone profile roles.Cancel front _ (subst (IsCommandPrologue profile roles.Cancel front) (sym (take_at words (named ∷ rest) m long)) is);
       size = size ∙ sym (length-append words (named ∷ rest) ∙ ap (λ n. n + suc (length rest)) long);
       only = only;
       content = drop_at words (named ∷ rest) m long ∙ ap (λ xs. named ∷ xs) none;
@@ -70,7 +80,7 @@ pub by_first : (profile : PacketProfile) → AreByFirst profile roles.Cancel IsN
 by_first profile = record {
   has = λ packet words h. record {
     front = front_of packet;
-    is_front = h.front;
+    is_front = sized profile packet words h;
     size = h.size;
     first = packet.named;
     rest = [];
@@ -89,14 +99,14 @@ pub right_cancel : (profile : PacketProfile) (packet : Cancel) (bytes : List ℕ
     → IsDatagram (IsCancel profile) packet bytes
 right_cancel profile packet bytes fit front size only content =
     let count = length-words_of bytes in
-    record { whole = omega arith; packet = record { front = front; size = omega arith; only = only; content = content } }
+    record { whole = omega arith; packet = record { front = front_alone profile roles.Cancel (front_of packet) _ front; size = omega arith; only = only; content = content } }
 
 -- ---- a cancellation has one list of words, and of bytes
 
 pub one_words : (profile : PacketProfile) (packet : Cancel) (a b : List ℕ) → AreWords a → AreWords b → IsCancel profile packet a → IsCancel profile packet b → a ≡ b
 one_words profile packet a b fit fit' p q =
     let m = command_words (front_of packet) in
-    let front = front_spelling.one_words profile roles.Cancel (front_of packet) (take m a) (take m b) (AreWords-take m a fit) (AreWords-take m b fit') p.front q.front in
+    let front = front_spelling.one_words profile roles.Cancel (front_of packet) (take m a) (take m b) (AreWords-take m a fit) (AreWords-take m b fit') (sized profile packet a p) (sized profile packet b q) in
     sym (take-append-drop m a) ∙ ap (λ xs. xs ++ drop m a) front ∙ ap (λ xs. take m b ++ xs) (p.content ∙ sym q.content) ∙ take-append-drop m b
 
 pub one_datagram : (profile : PacketProfile) (packet : Cancel) (a b : List ℕ) → AreBytes a → AreBytes b
@@ -114,4 +124,4 @@ pub cancel_size : (profile : PacketProfile) (packet : Cancel) (words : List ℕ)
     → packet.prologue.header.size ≡ command_words (front_of packet) + 1
 cancel_size profile packet words h =
     let m = command_words (front_of packet) in
-    omega (arith, h.size, command_length profile roles.Cancel (front_of packet) (take m words) h.front, length-take m words, length-drop m words, ap length h.content)
+    omega (arith, h.size, length-front profile roles.Cancel (front_of packet) (take m words) h.front, length-take m words, length-drop m words, ap length h.content)

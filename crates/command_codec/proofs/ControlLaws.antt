@@ -5,14 +5,17 @@ use Rattle.vrt_words.specs.Words.{words_of, AreWords, AreBytes}
 use Rattle.vrt_words.specs.Begins.{IsDatagram, IsRefused}
 use Rattle.vrt_words.proofs.WordLaws.{length-words_of, words_of-words, one_spelling, AreWords-take}
 use Rattle.vrt_header.specs.Profile.{PacketProfile}
-use Rattle.vrt_fields.specs.FieldSet.{FieldValues, IsFieldMask, width_of_mask}
+use Rattle.vrt_fields.specs.FieldSet.{FieldValues, IsFieldMask, width_of_mask, mask_of}
 use Rattle.vrt_fields.proofs.FieldSetLaws.{one_set, width_is_of_fields, set_of_words}
 use Rattle.vrt_fields.proofs.MaskLaws.{mask_of_width, no_width}
+use Rattle.vrt_fields.proofs.Steps.{width_most, all_widths}
+use Rattle.vrt_fields.specs.Field.{fields_in_order}
 use Rattle.cam_field.specs.declared.cam.Cam.{Cam}
 use Rattle.cam_field.specs.declared.modes.Action.TheVariants as actions
 use Rattle.cam_field.specs.declared.modes.Role.TheVariants as roles
 use Rattle.command_prologue.specs.CommandPrologue.{IsCommandPrologue, command_words}
 use Rattle.command_prologue.proofs.CommandPrologueLaws.{one_in_front, command_length, content_left, same_head}
+use Rattle.command_prologue.proofs.FrontLaws.{length-front, front_alone, front_with_room}
 use Rattle.command_prologue.proofs.SpellingLaws as front_spelling
 use Rattle.command_prologue.specs.declared.prologue.CommandPrologue.{CommandPrologue}
 use Rattle.vrt_words.specs.declared.place.Place.{Place}
@@ -20,6 +23,24 @@ use Rattle.command_codec.specs.declared.control.Control.{Control}
 use Rattle.command_codec.specs.Control.{front_of, AreValues, words_of_values, IsContent, IsControl}
 use Rattle.command_codec.specs.FirstWord.{AreByFirst}
 use Rattle.command_codec.specs.Steps.{IsAsked}
+
+-- ---- the content fits the size
+
+values_few : (cam : Cam) (asked : ℕ) (fields : Option FieldValues) (words : List ℕ) → AreValues cam asked fields words → length words ≤ 19
+values_few cam asked (Some set) words h =
+    omega (arith, ap length h.2, width_is_of_fields set h.0, width_most (mask_of set) fields_in_order, all_widths)
+values_few cam asked None words h = omega (arith, ap length h.2)
+
+-- the words in front leave room for it
+pub sized : (profile : PacketProfile) (packet : Control) (words : List ℕ) → IsControl profile packet words
+    → IsCommandPrologue profile roles.Control (front_of packet) (take (command_words (front_of packet)) words)
+sized profile packet words h =
+    let m = command_words (front_of packet) in
+    let front = length-front profile roles.Control (front_of packet) (take m words) h.front in
+    let count : ℕ = suc (length h.content.behind) in
+    let few = values_few packet.cam packet.asked packet.fields h.content.behind h.content.values in
+    let all : length words ≡ m + count = omega (arith, front, length-take m words, length-drop m words, ap length h.content.all) in
+    front_with_room profile roles.Control (front_of packet) (take m words) count h.front (h.size ∙ all) (omega arith, omega (arith, few))
 
 -- ---- words are one command
 
@@ -55,7 +76,7 @@ one_content a b words front p q =
 
 pub one_control : (profile : PacketProfile) (a b : Control) (words : List ℕ) → IsControl profile a words → IsControl profile b words → a ≡ b
 one_control profile a b words p q =
-    let front = one_in_front profile roles.Control (front_of a) (front_of b) (command_words (front_of a)) (command_words (front_of b)) words p.front q.front in
+    let front = one_in_front profile roles.Control (front_of a) (front_of b) (command_words (front_of a)) (command_words (front_of b)) words (sized profile a words p) (sized profile b words q) in
     one_content a b (drop (command_words (front_of a)) words) front p.content
     (subst (λ (f : CommandPrologue). IsContent b (drop (command_words f) words)) (sym front) q.content)
 
@@ -64,7 +85,7 @@ one_control profile a b words p q =
 front_inside : (profile : PacketProfile) (packet : Control) (words : List ℕ) → IsControl profile packet words → command_words (front_of packet) ≤ length words
 front_inside profile packet words h =
     let m = command_words (front_of packet) in
-    omega (arith, command_length profile roles.Control (front_of packet) (take m words) h.front, length-take m words)
+    omega (arith, length-front profile roles.Control (front_of packet) (take m words) h.front, length-take m words)
 
 asked_right : (profile : PacketProfile) (packet : Control) (words : List ℕ) (fields : Option FieldValues) (h : IsControl profile packet words)
     → AreValues packet.cam packet.asked fields h.content.behind → IsAsked (front_of packet) packet.asked
@@ -118,7 +139,7 @@ made profile front words asked rest fields is only values size =
     let long : length words ≡ command_words front = command_length profile roles.Control front words is in
     let m = command_words front in
     record {
-      front = subst (IsCommandPrologue profile roles.Control front) (sym (take_at words (asked ∷ rest) m long)) is;
+      front = front_alone profile roles.Control front _ (subst (IsCommandPrologue profile roles.Control front) (sym (take_at words (asked ∷ rest) m long)) is);
       size = size ∙ sym (length-append words (asked ∷ rest) ∙ ap (λ n. n + suc (length rest)) long);
       content = record { only = only; behind = rest; all = drop_at words (asked ∷ rest) m long; values = values };
     }
@@ -127,7 +148,7 @@ pub by_first : (profile : PacketProfile) → AreByFirst profile roles.Control Is
 by_first profile = record {
   has = λ packet words h. record {
     front = front_of packet;
-    is_front = h.front;
+    is_front = sized profile packet words h;
     size = h.size;
     first = packet.asked;
     rest = h.content.behind;
@@ -147,7 +168,7 @@ pub right_control : (profile : PacketProfile) (packet : Control) (bytes : List �
     → length bytes ≡ 4 * packet.prologue.header.size → IsContent packet (drop (command_words (front_of packet)) (words_of bytes)) → IsDatagram (IsControl profile) packet bytes
 right_control profile packet bytes fit front size content =
     let count = length-words_of bytes in
-    record { whole = omega arith; packet = record { front = front; size = omega arith; content = content } }
+    record { whole = omega arith; packet = record { front = front_alone profile roles.Control (front_of packet) _ front; size = omega arith; content = content } }
 
 -- ---- a command has one list of words, and of bytes
 
@@ -161,7 +182,7 @@ one_content_words packet a b p q = p.all ∙ ap (λ xs. packet.asked ∷ xs) (sa
 pub one_words : (profile : PacketProfile) (packet : Control) (a b : List ℕ) → AreWords a → AreWords b → IsControl profile packet a → IsControl profile packet b → a ≡ b
 one_words profile packet a b fit fit' p q =
     let m = command_words (front_of packet) in
-    let front = front_spelling.one_words profile roles.Control (front_of packet) (take m a) (take m b) (AreWords-take m a fit) (AreWords-take m b fit') p.front q.front in
+    let front = front_spelling.one_words profile roles.Control (front_of packet) (take m a) (take m b) (AreWords-take m a fit) (AreWords-take m b fit') (sized profile packet a p) (sized profile packet b q) in
     sym (take-append-drop m a) ∙ ap (λ xs. xs ++ drop m a) front ∙ ap (λ xs. take m b ++ xs) (one_content_words packet (drop m a) (drop m b) p.content q.content)
     ∙ take-append-drop m b
 

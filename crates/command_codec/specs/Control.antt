@@ -6,7 +6,7 @@ use Rattle.vrt_fields.specs.FieldSet.{FieldValues, IsFieldSet, mask_of, words_of
 use Rattle.cam_field.specs.declared.cam.Cam.{Cam}
 use Rattle.cam_field.specs.declared.modes.Action.TheVariants as actions
 use Rattle.cam_field.specs.declared.modes.Role.TheVariants as roles
-use Rattle.command_prologue.specs.CommandPrologue.{IsCommandPrologue, command_words}
+use Rattle.command_prologue.specs.CommandPrologue.{IsFront, command_words}
 use Rattle.command_prologue.specs.declared.prologue.CommandPrologue.{CommandPrologue}
 use Rattle.command_codec.specs.declared.control.Control.{Control}
 
@@ -39,10 +39,10 @@ pub record IsContent (packet : Control) (words : List ℕ) : Type 0 where
 
 -- these words, and no others, are a command
 pub record IsControl (profile : PacketProfile) (packet : Control) (words : List ℕ) : Type 0 where
-  pub front : IsCommandPrologue profile roles.Control (front_of packet) (take (command_words (front_of packet)) words)
+  pub front : IsFront profile roles.Control (front_of packet) (take (command_words (front_of packet)) words)
+  pub content : IsContent packet (drop (command_words (front_of packet)) words)
   -- the size counts all the words
   pub size : packet.prologue.header.size ≡ length words
-  pub content : IsContent packet (drop (command_words (front_of packet)) words)
 
 -- these are the words of the command
 pub record AreWordsOf (profile : PacketProfile) (packet : Control) (words : List ℕ) : Type 0 where

@@ -46,25 +46,36 @@ IsContentSize Control cam size = (1 ≤ size) × (size ≤ 20)
 IsContentSize Cancel cam size = size ≡ 1
 IsContentSize Ack cam size = IsAnswerSize cam.s (masks_in cam) size
 
--- the word is the mode word of a packet with this prologue, whose size leaves words that can stand behind the identities
+-- the words behind the prologue: a mode word that obeys this rule, the message identifier, the controllee and the controller
+pub record AreBehind (IsModeWord : Cam → ℕ → Type 0) (front : CommandPrologue) (words : List ℕ) : Type 0 where
+  pub mode_word : ℕ
+  pub mode : IsModeWord front.cam mode_word
+  pub controllee : IsIdentity front.cam.ce front.cam.ie front.controllee
+  pub controller : IsIdentity front.cam.cr front.cam.ir front.controller
+  pub all : words ≡ mode_word ∷ front.message ∷ (ident_words front.controllee ++ ident_words front.controller)
+
+-- these words, and no others, stand in front of the content
+pub record IsInFront (IsModeWord : Cam → ℕ → Type 0) (profile : PacketProfile) (role : Role) (front : CommandPrologue) (words : List ℕ) : Type 0 where
+  pub prologue : IsPrologueOf profile (kind_of role) front.prologue (take (prologue_words front.prologue.header.timed) words)
+  pub behind : AreBehind IsModeWord front (drop (prologue_words front.prologue.header.timed) words)
+
+-- the front of a packet with this role
+abbrev pub IsFront : PacketProfile → Role → CommandPrologue → List ℕ → Type 0
+IsFront profile role front words = IsInFront (IsCam role front.prologue.header.timed) profile role front words
+
+-- the mode word of a packet with this prologue, whose size leaves words that can stand behind the identities
 pub record IsMode (role : Role) (prologue : Prologue) (cam : Cam) (word : ℕ) : Type 0 where
   pub spelled : IsCam role prologue.header.timed cam word
   pub content : ℕ
   pub size : prologue.header.size ≡ prologue_words prologue.header.timed + 2 + identity_words cam + content
   pub allowed : IsContentSize role cam content
 
--- the words behind the prologue: the mode word, the message identifier, the controllee and the controller
-pub record IsBehind (role : Role) (front : CommandPrologue) (words : List ℕ) : Type 0 where
-  pub mode_word : ℕ
-  pub mode : IsMode role front.prologue front.cam mode_word
-  pub controllee : IsIdentity front.cam.ce front.cam.ie front.controllee
-  pub controller : IsIdentity front.cam.cr front.cam.ir front.controller
-  pub all : words ≡ mode_word ∷ front.message ∷ (ident_words front.controllee ++ ident_words front.controller)
+abbrev pub IsBehind : Role → CommandPrologue → List ℕ → Type 0
+IsBehind role front words = AreBehind (IsMode role front.prologue) front words
 
--- these words, and no others, are the prologue of a packet with this role
-pub record IsCommandPrologue (profile : PacketProfile) (role : Role) (front : CommandPrologue) (words : List ℕ) : Type 0 where
-  pub prologue : IsPrologueOf profile (kind_of role) front.prologue (take (prologue_words front.prologue.header.timed) words)
-  pub behind : IsBehind role front (drop (prologue_words front.prologue.header.timed) words)
+-- a front whose size leaves words for a content, as that of each packet does
+abbrev pub IsCommandPrologue : PacketProfile → Role → CommandPrologue → List ℕ → Type 0
+IsCommandPrologue profile role front words = IsInFront (IsMode role front.prologue) profile role front words
 
 -- its words
 abbrev pub command_words : CommandPrologue → ℕ

@@ -8,6 +8,7 @@ use Rattle.command_prologue.specs.CommandPrologue.{IsCommandPrologue, command_wo
 use Rattle.command_prologue.proofs.SpellingLaws.{take_put}
 use Rattle.command_prologue.specs.declared.prologue.CommandPrologue.{CommandPrologue}
 use Rattle.ack_codec.specs.Ack.{front_of}
+use Rattle.ack_codec.proofs.SizeLaws.{sized}
 use Rattle.ack_codec.specs.Steps.{content_words}
 use Rattle.ack_codec.proofs.SpellingLaws.{spelled, sizes, one_datagram, written}
 use Rattle.ack_codec.proofs.spelling.encode_ack.Goals as goal
@@ -16,7 +17,12 @@ pub write_command_prologue-start-requires-clause-spelled : goal.write_command_pr
 write_command_prologue-start-requires-clause-spelled c =
     let s = c.requires.spelled in
     let n = command_words (front_of c.args.packet.now) in
-    (take n s.0, AreWords-take n s.0 s.1, subst (λ (f : CommandPrologue). IsCommandPrologue c.args.profile roles.Ack f (take n s.0)) (sym c.front.ensures) s.2.front)
+    (take n s.0, AreWords-take n s.0 s.1, subst (λ (f : CommandPrologue). IsCommandPrologue c.args.profile roles.Ack f (take n s.0)) (sym c.front.ensures) (sized c.args.profile c.args.packet.now s.0 s.2))
+
+pub write_command_prologue-start-requires-clause-room : goal.write_command_prologue-start-requires-clause-room
+write_command_prologue-start-requires-clause-room c =
+    let s = c.requires.spelled in
+    omega (arith, c.requires.room, sizes c.args.profile c.args.packet.now s.0 s.2, ap command_words c.front.ensures)
 
 pub put_content-requires : goal.put_content-requires
 put_content-requires c =
@@ -47,7 +53,7 @@ returns-clause-packet c =
     let start : at ≡ n = c.write_command_prologue-start.ensures.length ∙ ap command_words c.front.ensures in
     let front : take at mid ≡ take n s.0 =
     c.write_command_prologue-start.ensures.again (take n s.0) (AreWords-take n s.0 s.1)
-    (subst (λ (f : CommandPrologue). IsCommandPrologue c.args.profile roles.Ack f (take n s.0)) (sym c.front.ensures) s.2.front) in
+    (subst (λ (f : CommandPrologue). IsCommandPrologue c.args.profile roles.Ack f (take n s.0)) (sym c.front.ensures) (sized c.args.profile c.args.packet.now s.0 s.2)) in
     let there : at ≤ length mid = omega (arith, length-words_of c.write_command_prologue-start.new.into, c.put_content.ensures.end, size, c.requires.room, c.write_command_prologue-start.auto.into) in
     let row : take end (words_of new) ≡ s.0 =
     take_put at end (words_of new) mid (content_words ack) (drop end mid) there c.put_content.ensures.end c.put_content.ensures.words

@@ -7,7 +7,7 @@ use Rattle.command_prologue.specs.CommandPrologue.{IsCommandPrologue, command_wo
 use Rattle.command_prologue.proofs.SpellingLaws.{take_put, datagram_in_front}
 use Rattle.command_prologue.specs.declared.prologue.CommandPrologue.{CommandPrologue}
 use Rattle.command_codec.specs.Cancel.{front_of, IsCancel}
-use Rattle.command_codec.proofs.CancelLaws.{cancel_size, one_datagram}
+use Rattle.command_codec.proofs.CancelLaws.{sized, cancel_size, one_datagram}
 use Rattle.command_codec.proofs.cancel_writing.encode_cancel.Goals as goal
 
 pub write_command_prologue-at-requires-clause-spelled : goal.write_command_prologue-at-requires-clause-spelled
@@ -16,7 +16,7 @@ write_command_prologue-at-requires-clause-spelled c =
     let m = command_words (front_of c.args.packet.now) in (
       take m s.0,
       AreWords-take m s.0 s.1.are_words,
-      subst (λ (f : CommandPrologue). IsCommandPrologue c.args.profile roles.Cancel f (take m s.0)) (sym c.front-front.ensures) s.1.told.front,
+      subst (λ (f : CommandPrologue). IsCommandPrologue c.args.profile roles.Cancel f (take m s.0)) (sym c.front-front.ensures) (sized c.args.profile c.args.packet.now s.0 s.1.told),
     )
 
 pub write_command_prologue-at-requires-clause-room : goal.write_command_prologue-at-requires-clause-room
@@ -49,7 +49,7 @@ row c =
     let size = cancel_size c.args.profile packet s.0 s.1.told in
     let start = c.write_command_prologue-at.ensures.length ∙ ap command_words c.front-front.ensures in
     let there = length-words_of c.write_command_prologue-at.new.into in
-    let is = subst (λ (f : CommandPrologue). IsCommandPrologue c.args.profile roles.Cancel f (take m s.0)) (sym c.front-front.ensures) s.1.told.front in
+    let is = subst (λ (f : CommandPrologue). IsCommandPrologue c.args.profile roles.Cancel f (take m s.0)) (sym c.front-front.ensures) (sized c.args.profile c.args.packet.now s.0 s.1.told) in
     let e1 : take at first ≡ take m s.0 = c.write_command_prologue-at.ensures.again (take m s.0) (AreWords-take m s.0 s.1.are_words) is in
     let e2 : take (at + 1) second ≡ take at first ++ (packet.named ∷ []) =
     take_put at (at + 1) second first (packet.named ∷ []) (drop (at + 1) first) (omega (arith, c.requires.room, size, start, there)) (omega arith) c.put_words.ensures.words in

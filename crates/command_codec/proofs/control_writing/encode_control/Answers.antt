@@ -7,7 +7,7 @@ use Rattle.command_prologue.specs.CommandPrologue.{IsCommandPrologue, command_wo
 use Rattle.command_prologue.proofs.SpellingLaws.{take_put, datagram_in_front}
 use Rattle.command_prologue.specs.declared.prologue.CommandPrologue.{CommandPrologue}
 use Rattle.command_codec.specs.Control.{front_of, words_of_values, IsControl}
-use Rattle.command_codec.proofs.ControlLaws.{control_size, row_words, one_datagram}
+use Rattle.command_codec.proofs.ControlLaws.{sized, control_size, row_words, one_datagram}
 use Rattle.command_codec.proofs.control_writing.encode_control.Goals as goal
 
 pub write_command_prologue-at-requires-clause-spelled : goal.write_command_prologue-at-requires-clause-spelled
@@ -16,7 +16,7 @@ write_command_prologue-at-requires-clause-spelled c =
     let m = command_words (front_of c.args.packet.now) in (
       take m s.0,
       AreWords-take m s.0 s.1.are_words,
-      subst (λ (f : CommandPrologue). IsCommandPrologue c.args.profile roles.Control f (take m s.0)) (sym c.front-front.ensures) s.1.told.front,
+      subst (λ (f : CommandPrologue). IsCommandPrologue c.args.profile roles.Control f (take m s.0)) (sym c.front-front.ensures) (sized c.args.profile c.args.packet.now s.0 s.1.told),
     )
 
 pub write_command_prologue-at-requires-clause-room : goal.write_command_prologue-at-requires-clause-room
@@ -58,7 +58,7 @@ row c =
     let start = c.write_command_prologue-at.ensures.length ∙ ap command_words c.front-front.ensures in
     let there = length-words_of c.write_command_prologue-at.new.into in
     let there' = length-words_of c.put_words.new.bytes in
-    let is = subst (λ (f : CommandPrologue). IsCommandPrologue c.args.profile roles.Control f (take (command_words front) s.0)) (sym c.front-front.ensures) s.1.told.front in
+    let is = subst (λ (f : CommandPrologue). IsCommandPrologue c.args.profile roles.Control f (take (command_words front) s.0)) (sym c.front-front.ensures) (sized c.args.profile c.args.packet.now s.0 s.1.told) in
     let e1 : take at first ≡ take (command_words front) s.0 =
     c.write_command_prologue-at.ensures.again (take (command_words front) s.0) (AreWords-take (command_words front) s.0 s.1.are_words) is in
     let e2 : take (at + 1) second ≡ take at first ++ (packet.asked ∷ []) =
