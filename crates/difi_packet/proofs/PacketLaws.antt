@@ -22,6 +22,9 @@ use Rattle.difi_context.specs.Context.{IsContext}
 use Rattle.difi_context.proofs.ContextLaws.{one_context}
 use Rattle.difi_version.specs.Version.{IsVersion}
 use Rattle.difi_version.proofs.VersionLaws.{one_version}
+use Rattle.command_codec.proofs.ControlLaws as controls
+use Rattle.command_codec.proofs.CancelLaws as cancels
+use Rattle.ack_codec.proofs.SizeLaws as acks
 use Rattle.command_codec.specs.Control.{IsControl}
 use Rattle.command_codec.proofs.ControlLaws.{one_control}
 use Rattle.command_codec.specs.Cancel.{IsCancel}
@@ -54,9 +57,9 @@ unfolding kind_in
 kind_told profile (DataValue packet) words h = kind_of_first profile kinds.Data packet.prologue words 7 h.prologue
 kind_told profile (ContextValue rec) words h = kind_of_first profile kinds.Context rec.prologue words 7 h.prologue
 kind_told profile (VersionValue rec) words h = kind_of_first profile kinds.Version rec.prologue words 7 h.prologue
-kind_told profile (ControlValue packet) words h = header_kind profile _ _ _ words h.front
-kind_told profile (CancelValue packet) words h = header_kind profile _ _ _ words h.front
-kind_told profile (AckValue packet) words h = header_kind profile _ _ _ words h.front
+kind_told profile (ControlValue packet) words h = header_kind profile _ _ _ words (controls.sized profile packet words h)
+kind_told profile (CancelValue packet) words h = header_kind profile _ _ _ words (cancels.sized profile packet words h)
+kind_told profile (AckValue packet) words h = header_kind profile _ _ _ words (acks.sized profile packet words h)
 
 same_kind : (profile : PacketProfile) (a b : PacketValue) (words : List ℕ) → IsPacket profile a words → IsPacket profile b words → kind_in a ≡ kind_in b
 same_kind profile a b words p q = one_kind (kind_in a) (kind_in b) (get_or words 0 0) (kind_told profile a words p) (kind_told profile b words q)
@@ -177,9 +180,9 @@ some_word : (profile : PacketProfile) (v : PacketValue) (words : List ℕ) → I
 some_word profile (DataValue packet) words h = some_front profile packet.prologue 7 words h.prologue.prologue
 some_word profile (ContextValue rec) words h = some_front profile rec.prologue 7 words h.prologue.prologue
 some_word profile (VersionValue rec) words h = some_front profile rec.prologue 7 words h.prologue.prologue
-some_word profile (ControlValue packet) words h = some_command profile _ _ _ words h.front
-some_word profile (CancelValue packet) words h = some_command profile _ _ _ words h.front
-some_word profile (AckValue packet) words h = some_command profile _ _ _ words h.front
+some_word profile (ControlValue packet) words h = some_command profile _ _ _ words (controls.sized profile packet words h)
+some_word profile (CancelValue packet) words h = some_command profile _ _ _ words (cancels.sized profile packet words h)
+some_word profile (AckValue packet) words h = some_command profile _ _ _ words (acks.sized profile packet words h)
 
 pub no_kind : (profile : PacketProfile) (bytes : List ℕ) → ((kind : Kind) → ¬ ((0 < length (words_of bytes)) × IsKind kind (get_or (words_of bytes) 0 0)))
     → IsRefused (IsPacket profile) bytes 0

@@ -247,13 +247,13 @@ fn a_data_packet_is_shown_with_its_pad(rt: HostRuntime) -> Result<(), NoMemory> 
 }
 
 // A version packet of stream 1 with this version word.
-fn version_of(word: u32) -> Packet<'static> {
-    Packet::Version(VersionRec {
+fn version_of(word: u32) -> VersionRec {
+    VersionRec {
         prologue: prologue_of(Kind::Version),
         changed: false,
         spec: 0x1234_5678,
         version: word,
-    })
+    }
 }
 
 #[test]
@@ -265,7 +265,7 @@ fn year_revision_and_icd_of_a_version_have_seven_six_and_six_bits(
         rt.alloc(),
         &mut out,
         Listing::Show,
-        &version_of(0xFE00_FC3F),
+        &Packet::Version(version_of(0xFE00_FC3F)),
     );
     let text =
         b"  time none\n  count 0\n  changed no\n  spec 12345678\n  year 127 day 0 revision 63 type 0 icd 63\n";
@@ -280,7 +280,7 @@ fn day_and_type_of_a_version_have_nine_and_four_bits(rt: HostRuntime) -> Result<
         rt.alloc(),
         &mut out,
         Listing::Show,
-        &version_of(0x01FF_03C0),
+        &Packet::Version(version_of(0x01FF_03C0)),
     );
     let text =
         b"  time none\n  count 0\n  changed no\n  spec 12345678\n  year 0 day 511 revision 0 type 15 icd 0\n";

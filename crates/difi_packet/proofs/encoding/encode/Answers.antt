@@ -35,3 +35,18 @@ pub returns-in-Ack-clause-again : goal.returns-in-Ack-clause-again
 returns-in-Ack-clause-again c = λ bytes fits d.
     let p = rw c.in-Ack.is at d in
     c.encode_ack.ensures.again bytes fits (record { whole = p.whole; packet = p.packet })
+
+pub returns-in-Data-clause-again : goal.returns-in-Data-clause-again
+returns-in-Data-clause-again c = λ bytes fits d.
+    let p = rw c.in-Data.is at d in
+    c.encode.ensures.again bytes fits (record { whole = p.whole; packet = p.packet })
+
+pub returns-in-Control-clause-again : goal.returns-in-Control-clause-again
+returns-in-Control-clause-again c = λ bytes fits d.
+    let p = rw c.in-Control.is at d in
+    c.encode_control.ensures.again bytes fits (record { whole = p.whole; packet = p.packet })
+
+pub returns-in-Cancel-clause-again : goal.returns-in-Cancel-clause-again
+returns-in-Cancel-clause-again c = λ bytes fits d.
+    let p = rw c.in-Cancel.is at d in
+    c.encode_cancel.ensures.again bytes fits (record { whole = p.whole; packet = p.packet })
