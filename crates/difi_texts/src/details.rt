@@ -71,7 +71,7 @@ fn push_context(alloc: Global, out: &mut TextBuffer, rec: &ContextRec)
     push_fields(alloc, out, rec, &all_fields());
 }
 
-fn push_version(out: &mut TextBuffer, rec: &VersionRec)
+pub(crate) fn push_version(out: &mut TextBuffer, rec: &VersionRec)
     requires { length out.old + 400 ≤ 67584 }
     ensures text { out.new ≡ out.old ++ version_details rec.now }
     ensures length { length out.new ≤ length out.old + 400 }

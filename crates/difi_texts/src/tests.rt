@@ -1,4 +1,5 @@
 use super::command_details::{push_ack, push_cancel, push_control};
+use super::details::push_version;
 use super::*;
 use ack_codec::{Ack, AckReport, AckState, Responses};
 use cam_field::{Action, Cam, Ident, Timing};
@@ -261,12 +262,7 @@ fn year_revision_and_icd_of_a_version_have_seven_six_and_six_bits(
     rt: HostRuntime,
 ) -> Result<(), NoMemory> {
     let mut out = TextBuffer::open(rt.alloc())?;
-    push_under(
-        rt.alloc(),
-        &mut out,
-        Listing::Show,
-        &Packet::Version(version_of(0xFE00_FC3F)),
-    );
+    push_version(&mut out, &version_of(0xFE00_FC3F));
     let text =
         b"  time none\n  count 0\n  changed no\n  spec 12345678\n  year 127 day 0 revision 63 type 0 icd 63\n";
     assert_eq!(rt; out.as_slice(), text.as_slice());
@@ -276,12 +272,7 @@ fn year_revision_and_icd_of_a_version_have_seven_six_and_six_bits(
 #[test]
 fn day_and_type_of_a_version_have_nine_and_four_bits(rt: HostRuntime) -> Result<(), NoMemory> {
     let mut out = TextBuffer::open(rt.alloc())?;
-    push_under(
-        rt.alloc(),
-        &mut out,
-        Listing::Show,
-        &Packet::Version(version_of(0x01FF_03C0)),
-    );
+    push_version(&mut out, &version_of(0x01FF_03C0));
     let text =
         b"  time none\n  count 0\n  changed no\n  spec 12345678\n  year 0 day 511 revision 0 type 15 icd 0\n";
     assert_eq!(rt; out.as_slice(), text.as_slice());
