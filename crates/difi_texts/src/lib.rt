@@ -8,9 +8,8 @@ mod frame_words;
 mod lines;
 #[cfg(test)]
 mod tests;
-mod text_buffer;
 
 pub use crate::details::push_under;
 pub use crate::frame_words::FrameWords;
 pub use crate::lines::{Judgement, Listing, accepted, push_counts, push_line};
-pub use crate::text_buffer::TextBuffer;
+pub use text_buffer::TextBuffer;

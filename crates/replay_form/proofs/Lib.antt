@@ -19,3 +19,4 @@ pub mod FieldRules
 pub mod HeadSaid
 pub mod HeadValues
 pub mod FrameSpelling
+pub mod IntakeLaws

@@ -142,15 +142,18 @@ fresh_stands reading fresh =
       start = omega (arith, ap length none, fresh.start);
     }))
 
--- or wrong, or end inside the header or a frame
+-- or they end inside the header or a frame
+pub ends_early : (reading : Reading) (taken : List ℕ) (frames : List Frame) (offset : ℕ) → IsUnfinished None reading offset
+    → IsBeginning reading taken frames ⊎ IsGoing reading taken frames → EndsInside taken × (offset ≡ length taken)
+ends_early reading taken frames offset ends (inl b) = (inl (subst IsHeadPart (sym b.bytes) b.part), omega (arith, ends.0, b.start))
+ends_early reading taken frames offset ends (inr g) =
+    let some : 0 < length (begun reading) = elim ends.1 [ inl unstarted ↦ not_both reading.started g.started unstarted | inr h ↦ h ] in
+    (inr (reading.head, (frames, (begun reading, (some, g.so_far)))), omega (arith, ends.0, g.start))
+
 unfinished : (fault : Option RecordFault) (reading : Reading) (taken : List ℕ) (frames : List Frame) (offset : ℕ) → IsUnfinished fault reading offset
     → StandsWith fault reading taken frames → IsRecordWrongAt frames taken offset ⊎ (EndsInside taken × (offset ≡ length taken))
 unfinished (Some fault) reading taken frames offset ends stands = inl (subst (IsRecordWrongAt frames taken) (sym ends) stands)
-unfinished None reading taken frames offset ends (inl b) =
-    inr (inl (subst IsHeadPart (sym b.bytes) b.part), omega (arith, ends.0, b.start))
-unfinished None reading taken frames offset ends (inr g) =
-    let some : 0 < length (begun reading) = elim ends.1 [ inl unstarted ↦ not_both reading.started g.started unstarted | inr h ↦ h ] in
-    inr (inr (reading.head, (frames, (begun reading, (some, g.so_far)))), omega (arith, ends.0, g.start))
+unfinished None reading taken frames offset ends stands = inr (ends_early reading taken frames offset ends stands)
 
 -- without a fault, the number of all bytes is known
 pub stands_size : (reading : Reading) (taken : List ℕ) (frames : List Frame) → reading.fault ≡ None → StandsFor reading taken frames

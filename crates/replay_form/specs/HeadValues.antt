@@ -1,5 +1,5 @@
 -- The rules of a header's values, whatever bytes say them.
-use Rattle.std.specs.Prelude.{◌≡◌, ◌≢◌, ℕ, ◌+◌, ◌-◌, ◌<◌, ◌≤◌, ◌^◌, ◌==◌, Bool, if◌then◌else◌, ◌⊎◌, List, length, slice_index, get_or}
+use Rattle.std.specs.Prelude.{◌≡◌, ◌≢◌, ℕ, ◌+◌, ◌<◌, ◌≤◌, ◌^◌, ◌==◌, Bool, if◌then◌else◌, ◌⊎◌, List, length, slice_index, get_or}
 use Rattle.vrt_words.specs.Words.{AreWords}
 use Rattle.vrt_header.specs.Profile.{IsProfile}
 use Rattle.vrt_fields.specs.declared.field.Field.{Field}

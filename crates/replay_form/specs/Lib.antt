@@ -10,3 +10,6 @@ pub mod Taking
 pub mod Record
 pub mod Reading
 pub mod Verdict
+pub mod Standing
+pub mod Grammar
+pub mod RecordGrammar

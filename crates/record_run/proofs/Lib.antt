@@ -1,0 +1,5 @@
+pub mod Sent
+pub mod Going
+pub mod Feeding
+pub mod Outcomes
+pub mod RecordReading

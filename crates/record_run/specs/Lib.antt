@@ -1,0 +1,5 @@
+pub mod Tells
+pub mod Outcome
+pub mod Status
+pub mod Progress
+pub mod Steps

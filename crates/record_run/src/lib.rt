@@ -1,0 +1,18 @@
+//! The one loop of all commands that read: from a source through an intake to a teller, and what it
+//! tells to a sink.
+#![tactic(auto)]
+
+mod intake;
+mod outgoing;
+mod reading;
+mod record;
+mod run;
+mod status;
+mod teller;
+mod transfer;
+
+pub use crate::intake::Intake;
+pub use crate::record::ReceivedFrame;
+pub use crate::run::run_record;
+pub use crate::status::Status;
+pub use crate::teller::Teller;
