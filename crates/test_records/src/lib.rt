@@ -1,5 +1,9 @@
-//! Records in memory, which the tests of several crates read.
+//! Records in memory, which the tests of several crates read, and a player of rows of words.
 #![tactic(auto)]
+
+mod rows;
+
+pub use crate::rows::is_edge;
 
 use std::alloc::{AllocError, Global};
 
