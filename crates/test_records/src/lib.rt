@@ -2,9 +2,10 @@
 #![tactic(auto)]
 
 mod rows;
+#[cfg(test)]
+mod tests;
 
 pub use crate::rows::is_edge;
-
 use std::alloc::{AllocError, Global};
 
 /// The words of a context packet of stream 1 with the count 0: bandwidth 280,000 Hz, IF 70 MHz, RF
