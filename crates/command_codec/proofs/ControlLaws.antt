@@ -1,9 +1,8 @@
 -- Laws of commands: words are one at most, and are refused in the prologue, at CIF0 or at the end.
-use Rattle.std.proofs.Common.{◌≡◌, ℕ, zero, suc, ◌+◌, ◌-◌, ◌*◌, ◌^◌, ◌<◌, ◌≤◌, ◌⊎◌, inl, inr, List, [], ◌∷◌, ◌++◌, length, take, drop, Option, Some, None, Result, Ok, Err, IfOk, IfErr, refl, sym, ap, ◌∙◌, subst, length-append, length-drop, take-append-drop, append_assoc, arith}
-use Rattle.std.proofs.lemmas.List.{length-take, take_at, drop_at, nil_from_length}
+use Rattle.std.proofs.Common.{◌≡◌, ℕ, zero, suc, ◌+◌, ◌-◌, ◌*◌, ◌^◌, ◌<◌, ◌≤◌, ◌⊎◌, inl, inr, List, [], ◌∷◌, ◌++◌, length, take, drop, Option, Some, None, Result, Ok, IfOk, IfErr, refl, sym, ap, ◌∙◌, subst, take-append-drop, append_assoc, arith}
+use Rattle.std.proofs.lemmas.List.{nil_from_length}
 use Rattle.vrt_words.specs.Words.{words_of, AreWords, AreBytes}
 use Rattle.vrt_words.specs.Begins.{IsDatagram, IsRefused}
-use Rattle.vrt_words.proofs.WordLaws.{length-words_of, words_of-words, one_spelling, AreWords-take}
 use Rattle.vrt_header.specs.Profile.{PacketProfile}
 use Rattle.vrt_fields.specs.FieldSet.{FieldValues, IsFieldMask, width_of_mask, mask_of}
 use Rattle.vrt_fields.proofs.FieldSetLaws.{one_set, width_is_of_fields, set_of_words}
@@ -13,36 +12,23 @@ use Rattle.vrt_fields.specs.Field.{fields_in_order}
 use Rattle.cam_field.specs.declared.cam.Cam.{Cam}
 use Rattle.cam_field.specs.declared.modes.Action.TheVariants as actions
 use Rattle.cam_field.specs.declared.modes.Role.TheVariants as roles
-use Rattle.command_prologue.specs.CommandPrologue.{IsCommandPrologue, command_words}
-use Rattle.command_prologue.proofs.CommandPrologueLaws.{one_in_front, command_length, content_left, same_head}
-use Rattle.command_prologue.proofs.FrontLaws.{length-front, front_alone, front_with_room}
-use Rattle.command_prologue.proofs.SpellingLaws as front_spelling
+use Rattle.command_prologue.specs.CommandPrologue.{IsContentSize, IsCommandPrologue, command_words}
+use Rattle.command_prologue.proofs.CommandPrologueLaws.{content_left, same_head}
 use Rattle.command_prologue.specs.declared.prologue.CommandPrologue.{CommandPrologue}
 use Rattle.vrt_words.specs.declared.place.Place.{Place}
 use Rattle.command_codec.specs.declared.control.Control.{Control}
 use Rattle.command_codec.specs.Control.{front_of, AreValues, words_of_values, IsContent, IsControl}
 use Rattle.command_codec.specs.FirstWord.{AreByFirst}
 use Rattle.command_codec.specs.Steps.{IsAsked}
+use Rattle.command_codec.proofs.ContentLaws.{AreInParts}
+use Rattle.command_codec.proofs.ContentLaws as laws
 
--- ---- the content fits the size
+-- ---- the content
 
 values_few : (cam : Cam) (asked : ℕ) (fields : Option FieldValues) (words : List ℕ) → AreValues cam asked fields words → length words ≤ 19
 values_few cam asked (Some set) words h =
     omega (arith, ap length h.2, width_is_of_fields set h.0, width_most (mask_of set) fields_in_order, all_widths)
 values_few cam asked None words h = omega (arith, ap length h.2)
-
--- the words in front leave room for it
-pub sized : (profile : PacketProfile) (packet : Control) (words : List ℕ) → IsControl profile packet words
-    → IsCommandPrologue profile roles.Control (front_of packet) (take (command_words (front_of packet)) words)
-sized profile packet words h =
-    let m = command_words (front_of packet) in
-    let front = length-front profile roles.Control (front_of packet) (take m words) h.front in
-    let count : ℕ = suc (length h.content.behind) in
-    let few = values_few packet.cam packet.asked packet.fields h.content.behind h.content.values in
-    let all : length words ≡ m + count = omega (arith, front, length-take m words, length-drop m words, ap length h.content.all) in
-    front_with_room profile roles.Control (front_of packet) (take m words) count h.front (h.size ∙ all) (omega arith, omega (arith, few))
-
--- ---- words are one command
 
 one_values : (cam : Cam) (asked : ℕ) (a b : Option FieldValues) (words : List ℕ) → IsFieldMask asked → AreValues cam asked a words → AreValues cam asked b words → a ≡ b
 one_values cam asked (Some a) (Some b) words only p q = ap Some (one_set a b p.0 q.0 (p.1 ∙ sym q.1) (p.2 ∙ sym q.2))
@@ -74,26 +60,63 @@ one_content a b words front p q =
     (subst (λ n. AreValues b.cam n b.fields p.behind) (sym row.0) (subst (AreValues b.cam b.asked b.fields) (sym row.1) q.values)) in
     same_control a b front row.0 (one_values a.cam a.asked a.fields b.fields p.behind p.only p.values theirs)
 
+one_content_words : (packet : Control) (a b : List ℕ) → IsContent packet a → IsContent packet b → a ≡ b
+one_content_words packet a b p q = p.all ∙ ap (λ xs. packet.asked ∷ xs) (same packet.fields p.values q.values) ∙ sym q.all
+  where
+    same : (fields : Option FieldValues) → AreValues packet.cam packet.asked fields p.behind → AreValues packet.cam packet.asked fields q.behind → p.behind ≡ q.behind
+    same (Some set) x y = sym x.2 ∙ y.2
+    same None x y = x.2 ∙ sym y.2
+
+-- ---- a command is its front and the content
+
+content_fits : (packet : Control) (words : List ℕ) → IsContent packet words → IsContentSize roles.Control packet.cam (length words)
+content_fits packet words h =
+    let few = values_few packet.cam packet.asked packet.fields h.behind h.values in
+    (omega (arith, ap length h.all), omega (arith, few, ap length h.all))
+
+pub in_parts : (profile : PacketProfile) → AreInParts profile roles.Control front_of IsContent (IsControl profile)
+in_parts profile = record {
+  parts = λ packet words h. record { front = h.front; content = h.content; size = h.size };
+  whole = λ packet words h. record { front = h.front; content = h.content; size = h.size };
+  fits = content_fits;
+  one_value = one_content;
+  one_content = one_content_words;
+}
+
+-- the words in front leave room for it
+pub sized : (profile : PacketProfile) (packet : Control) (words : List ℕ) → IsControl profile packet words
+    → IsCommandPrologue profile roles.Control (front_of packet) (take (command_words (front_of packet)) words)
+sized profile = laws.sized profile roles.Control front_of IsContent (IsControl profile) (in_parts profile)
+
 pub one_control : (profile : PacketProfile) (a b : Control) (words : List ℕ) → IsControl profile a words → IsControl profile b words → a ≡ b
-one_control profile a b words p q =
-    let front = one_in_front profile roles.Control (front_of a) (front_of b) (command_words (front_of a)) (command_words (front_of b)) words (sized profile a words p) (sized profile b words q) in
-    one_content a b (drop (command_words (front_of a)) words) front p.content
-    (subst (λ (f : CommandPrologue). IsContent b (drop (command_words f) words)) (sym front) q.content)
+one_control profile = laws.one_packet profile roles.Control front_of IsContent (IsControl profile) (in_parts profile)
+
+pub one_datagram : (profile : PacketProfile) (packet : Control) (a b : List ℕ) → AreBytes a → AreBytes b
+    → IsDatagram (IsControl profile) packet a → IsDatagram (IsControl profile) packet b → a ≡ b
+one_datagram profile = laws.one_datagram profile roles.Control front_of IsContent (IsControl profile) (in_parts profile)
+
+-- the answer of a decoder is the only one
+pub one_answer : (profile : PacketProfile) (bytes : List ℕ) (result : Result Control Place) → IfOk result (λ packet. IsDatagram (IsControl profile) packet bytes)
+    → IfErr result (λ place. IsRefused (IsControl profile) bytes place.word) → (packet : Control) → IsDatagram (IsControl profile) packet bytes → result ≡ Ok packet
+one_answer profile = laws.one_answer profile roles.Control front_of IsContent (IsControl profile) (in_parts profile)
+
+pub right_control : (profile : PacketProfile) (packet : Control) (bytes : List ℕ) → AreBytes bytes
+    → IsCommandPrologue profile roles.Control (front_of packet) (take (command_words (front_of packet)) (words_of bytes))
+    → length bytes ≡ 4 * packet.prologue.header.size → IsContent packet (drop (command_words (front_of packet)) (words_of bytes)) → IsDatagram (IsControl profile) packet bytes
+right_control profile = laws.right profile roles.Control front_of IsContent (IsControl profile) (in_parts profile)
+
+all_words : (profile : PacketProfile) (packet : Control) (words : List ℕ) (h : IsControl profile packet words)
+    → length words ≡ command_words (front_of packet) + suc (length h.content.behind)
+all_words profile packet words h =
+    laws.all_words profile roles.Control front_of IsContent (IsControl profile) (in_parts profile) packet words h
+    ∙ ap (λ xs. command_words (front_of packet) + length xs) h.content.all
 
 -- ---- commands are a prologue, CIF0 of its rule, and words up to the size
-
-front_inside : (profile : PacketProfile) (packet : Control) (words : List ℕ) → IsControl profile packet words → command_words (front_of packet) ≤ length words
-front_inside profile packet words h =
-    let m = command_words (front_of packet) in
-    omega (arith, length-front profile roles.Control (front_of packet) (take m words) h.front, length-take m words)
 
 asked_right : (profile : PacketProfile) (packet : Control) (words : List ℕ) (fields : Option FieldValues) (h : IsControl profile packet words)
     → AreValues packet.cam packet.asked fields h.content.behind → IsAsked (front_of packet) packet.asked
 asked_right profile packet words fields h values =
-    let m = command_words (front_of packet) in
-    let long = front_inside profile packet words h in
-    let rest : length words ≡ m + suc (length h.content.behind) = omega (arith, length-drop m words, ap length h.content.all) in
-    record { only = h.content.only; follows = follow fields values rest }
+    record { only = h.content.only; follows = follow fields values (all_words profile packet words h) }
   where
     follow : (fields : Option FieldValues) → AreValues packet.cam packet.asked fields h.content.behind → length words ≡ command_words (front_of packet) + suc (length h.content.behind)
         → (command_words (front_of packet) + 1 + width_of_mask packet.asked ≡ packet.prologue.header.size)
@@ -136,13 +159,8 @@ made : (profile : PacketProfile) (front : CommandPrologue) (words : List ℕ) (a
     → IsControl profile (packet_of front asked fields) (words ++ (asked ∷ rest))
 unfolding packet_of
 made profile front words asked rest fields is only values size =
-    let long : length words ≡ command_words front = command_length profile roles.Control front words is in
-    let m = command_words front in
-    record {
-      front = front_alone profile roles.Control front _ (subst (IsCommandPrologue profile roles.Control front) (sym (take_at words (asked ∷ rest) m long)) is);
-      size = size ∙ sym (length-append words (asked ∷ rest) ∙ ap (λ n. n + suc (length rest)) long);
-      content = record { only = only; behind = rest; all = drop_at words (asked ∷ rest) m long; values = values };
-    }
+    laws.made profile roles.Control front_of IsContent (IsControl profile) (in_parts profile) (packet_of front asked fields) words (asked ∷ rest) is
+    (record { only = only; behind = rest; all = refl; values = values }) size
 
 pub by_first : (profile : PacketProfile) → AreByFirst profile roles.Control IsAsked (IsControl profile)
 by_first profile = record {
@@ -161,42 +179,6 @@ by_first profile = record {
       (packet_of front asked fields.0, made profile front words asked rest fields.0 is first.only fields.1 size);
 }
 
--- ---- what a reader finds
-
-pub right_control : (profile : PacketProfile) (packet : Control) (bytes : List ℕ) → AreBytes bytes
-    → IsCommandPrologue profile roles.Control (front_of packet) (take (command_words (front_of packet)) (words_of bytes))
-    → length bytes ≡ 4 * packet.prologue.header.size → IsContent packet (drop (command_words (front_of packet)) (words_of bytes)) → IsDatagram (IsControl profile) packet bytes
-right_control profile packet bytes fit front size content =
-    let count = length-words_of bytes in
-    record { whole = omega arith; packet = record { front = front_alone profile roles.Control (front_of packet) _ front; size = omega arith; content = content } }
-
--- ---- a command has one list of words, and of bytes
-
-one_content_words : (packet : Control) (a b : List ℕ) → IsContent packet a → IsContent packet b → a ≡ b
-one_content_words packet a b p q = p.all ∙ ap (λ xs. packet.asked ∷ xs) (same packet.fields p.values q.values) ∙ sym q.all
-  where
-    same : (fields : Option FieldValues) → AreValues packet.cam packet.asked fields p.behind → AreValues packet.cam packet.asked fields q.behind → p.behind ≡ q.behind
-    same (Some set) x y = sym x.2 ∙ y.2
-    same None x y = x.2 ∙ sym y.2
-
-pub one_words : (profile : PacketProfile) (packet : Control) (a b : List ℕ) → AreWords a → AreWords b → IsControl profile packet a → IsControl profile packet b → a ≡ b
-one_words profile packet a b fit fit' p q =
-    let m = command_words (front_of packet) in
-    let front = front_spelling.one_words profile roles.Control (front_of packet) (take m a) (take m b) (AreWords-take m a fit) (AreWords-take m b fit') (sized profile packet a p) (sized profile packet b q) in
-    sym (take-append-drop m a) ∙ ap (λ xs. xs ++ drop m a) front ∙ ap (λ xs. take m b ++ xs) (one_content_words packet (drop m a) (drop m b) p.content q.content)
-    ∙ take-append-drop m b
-
-pub one_datagram : (profile : PacketProfile) (packet : Control) (a b : List ℕ) → AreBytes a → AreBytes b
-    → IsDatagram (IsControl profile) packet a → IsDatagram (IsControl profile) packet b → a ≡ b
-one_datagram profile packet a b fit fit' p q =
-    one_spelling a b fit fit' p.whole q.whole (one_words profile packet (words_of a) (words_of b) (words_of-words a fit) (words_of-words b fit') p.packet q.packet)
-
--- the answer of a decoder is the only one
-pub one_answer : (profile : PacketProfile) (bytes : List ℕ) (result : Result Control Place) → IfOk result (λ packet. IsDatagram (IsControl profile) packet bytes)
-    → IfErr result (λ place. IsRefused (IsControl profile) bytes place.word) → (packet : Control) → IsDatagram (IsControl profile) packet bytes → result ≡ Ok packet
-one_answer profile bytes (Ok found) ok refused packet d = ap Ok (one_control profile found packet (words_of bytes) ok.packet d.packet)
-one_answer profile bytes (Err place) ok refused packet d = absurd (refused.no_packet packet d)
-
 -- ---- the words that are written
 
 pub values_spelled : (cam : Cam) (asked : ℕ) (fields : Option FieldValues) (words : List ℕ) → AreValues cam asked fields words → words_of_values fields ≡ words
@@ -206,15 +188,7 @@ values_spelled cam asked None words h = sym h.2
 pub control_size : (profile : PacketProfile) (packet : Control) (words : List ℕ) → IsControl profile packet words
     → packet.prologue.header.size ≡ command_words (front_of packet) + 1 + length (words_of_values packet.fields)
 control_size profile packet words h =
-    let m = command_words (front_of packet) in
-    omega (
-      arith,
-      h.size,
-      front_inside profile packet words h,
-      length-drop m words,
-      ap length h.content.all,
-      ap length (values_spelled packet.cam packet.asked packet.fields h.content.behind h.content.values),
-    )
+    omega (arith, h.size, all_words profile packet words h, ap length (values_spelled packet.cam packet.asked packet.fields h.content.behind h.content.values))
 
 -- the prologue, CIF0 and the values in a row
 pub row_words : (profile : PacketProfile) (packet : Control) (words start : List ℕ) → IsControl profile packet words → start ≡ take (command_words (front_of packet)) words

@@ -1,3 +1,4 @@
 pub mod FirstWordLaws
+pub mod ContentLaws
 pub mod ControlLaws
 pub mod CancelLaws

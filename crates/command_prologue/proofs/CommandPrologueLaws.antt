@@ -32,6 +32,7 @@ use Rattle.cam_field.specs.declared.modes.Role.TheVariants.{Control, Cancel, Ack
 use Rattle.command_prologue.specs.CommandPrologue.{kind_of, IsIdentity, identity_words, IsContentSize, IsMode, IsBehind, IsCommandPrologue, command_words}
 use Rattle.vrt_words.specs.Growing.{AreGrown}
 use Rattle.vrt_words.proofs.GrowingLaws.{refused_in_front, refused_behind, none_in_front}
+use Rattle.command_prologue.proofs.FrontLaws.{length-behind, length-front}
 use Rattle.command_prologue.specs.Steps.{IsBegun, IsCutAt, AreNamed}
 use Rattle.vrt_words.specs.declared.place.Place.{Place}
 use Rattle.command_prologue.specs.declared.prologue.CommandPrologue.{CommandPrologue}
@@ -273,15 +274,11 @@ behind_in role p cam word message words mode long =
 
 -- ---- what goes on behind the prologue
 
-behind_length : (role : Role) (front : CommandPrologue) (words : List ℕ) → IsBehind role front words → length words ≡ 2 + identity_words front.cam
-behind_length role front words h =
-    ap length h.all ∙ omega (arith, length-append (ident_words front.controllee) (ident_words front.controller), h.controllee.size, h.controller.size)
-
 pub begun_by_behind : (role : Role) (front : CommandPrologue) (words rest : List ℕ) → IsBehind role front (words ++ rest) → IsBegun role front.prologue words
 begun_by_behind role front [] rest h = tt
 begun_by_behind role front (word ∷ words) rest h =
     let same : word ≡ h.mode_word = (same_head word h.mode_word (words ++ rest) (front.message ∷ (ident_words front.controllee ++ ident_words front.controller)) h.all).0 in
-    (front.cam, (subst (IsMode role front.prologue front.cam) (sym same) h.mode, omega (arith, behind_length role front (word ∷ (words ++ rest)) h, length-append words rest)))
+    (front.cam, (subst (IsMode role front.prologue front.cam) (sym same) h.mode, omega (arith, length-behind _ front (word ∷ (words ++ rest)) h, length-append words rest)))
 
 pub begun_short : (role : Role) (p : Prologue) (words : List ℕ) → IsBegun role p words → length words ≤ 10
 begun_short role p [] h = omega arith
@@ -312,14 +309,14 @@ behind_read role front (word ∷ message ∷ words) mode there named =
 pub cut_at_end : (role : Role) (p : Prologue) (words : List ℕ) → length words ≡ 0 → IsCutAt role p words 0
 cut_at_end role p [] none = record {
   stopped = record { within = omega arith; begun = tt; here = λ h. absurd (omega arith) };
-  unfinished = λ front n same h. absurd (omega (arith, behind_length role front (take n []) h, length-take {A = ℕ} n []));
+  unfinished = λ front n same h. absurd (omega (arith, length-behind _ front (take n []) h, length-take {A = ℕ} n []));
 }
 cut_at_end role p (word ∷ words) none = absurd (omega arith)
 
 -- the mode word stands first
 mode_word_first : (role : Role) (front : CommandPrologue) (words : List ℕ) (n : ℕ) (h : IsBehind role front (take n words)) → h.mode_word ≡ get_or words 0 0
 mode_word_first role front words n h =
-    let some : 0 < n = omega (arith, behind_length role front (take n words) h, length-take n words) in
+    let some : 0 < n = omega (arith, length-behind _ front (take n words) h, length-take n words) in
     sym (ap (λ xs. get_or xs 0 0) h.all) ∙ get_or-take n words 0 0 some
 
 pub cut_at_mode : (role : Role) (p : Prologue) (words : List ℕ) → 0 < length words → ((cam : Cam) → ¬ IsMode role p cam (get_or words 0 0)) → IsCutAt role p words 0
@@ -342,15 +339,13 @@ cut_short role p cam (word ∷ words) there mode short = record {
   unfinished = λ front n same h.
       let first = mode_word_first role front (word ∷ words) n h in
       let e = one_cam front.cam cam word (subst (IsSpelled front.cam) first h.mode.spelled.spelled) mode.spelled.spelled in
-      absurd (omega (arith, behind_length role front (take n (word ∷ words)) h, length-take n (word ∷ words), ap identity_words e));
+      absurd (omega (arith, length-behind _ front (take n (word ∷ words)) h, length-take n (word ∷ words), ap identity_words e));
 }
 
 module _ (profile : PacketProfile) (role : Role) where
   -- the words of a prologue are as many as it says
   pub command_length : (v : CommandPrologue) (words : List ℕ) → IsCommandPrologue profile role v words → length words ≡ command_words v
-  command_length v words h =
-      let n = prologue_words v.prologue.header.timed in
-      omega (arith, h.prologue.prologue.all, behind_length role v (drop n words) h.behind, length-drop n words, length-take n words)
+  command_length v words h = length-front profile role v words h
 
   -- a prologue in front of words has its parts from them
   front_told : (v : CommandPrologue) (m : ℕ) (words : List ℕ) → IsCommandPrologue profile role v (take m words)

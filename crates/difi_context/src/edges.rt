@@ -27,30 +27,19 @@ fn place_of_first(profile: Profile, words: &[u32; 27], count: usize) -> Option<u
     place_in(profile, &bytes[..count])
 }
 
-// The first of the words that is wrong at the index of a context where all should be right, or right
-// where all should be refused there.
-fn stranger(profile: Profile, index: usize, words: &[u32], right: bool) -> Option<u32> {
-    for word in words {
-        let mut context = WORDS;
-        if let Some(there) = context.get_mut(index) {
-            *there = *word;
-        }
-        let told = match place_of_first(profile, &context, 108) {
-            None => right,
-            Some(place) => !right && place as usize == index,
-        };
-        if !told {
-            return Some(*word);
-        }
+// The place at which the context with this word at this index is refused, if it is.
+fn place_with(profile: Profile, index: u32, word: u32) -> Option<u32> {
+    let mut context = WORDS;
+    if let Some(there) = context.get_mut(index as usize) {
+        *there = word;
     }
-    None
+    place_of_first(profile, &context, 108)
 }
 
 // All words of the first list are right at the index of a context, and all of the second are refused
 // there.
-fn is_edge(profile: Profile, index: usize, right: &[u32], wrong: &[u32]) -> bool {
-    stranger(profile, index, right, true).is_none()
-        && stranger(profile, index, wrong, false).is_none()
+fn is_edge(profile: Profile, index: u32, right: &[u32], wrong: &[u32]) -> bool {
+    test_records::is_edge(index, right, wrong, |word| place_with(profile, index, word))
 }
 
 // The place at which the context with this rate is refused, if it is.
@@ -121,7 +110,7 @@ fn a_payload_format_has_two_words(rt: HostRuntime) {
 }
 
 // Whether each number may stand at each of these indices.
-fn are_free(profile: Profile, indices: &[usize]) -> bool {
+fn are_free(profile: Profile, indices: &[u32]) -> bool {
     for index in indices {
         if !is_edge(profile, *index, &[0, 0xFFFFFFFF], &[]) {
             return false;

@@ -1,10 +1,12 @@
 -- Laws of data packets: a datagram is one at most, and is refused in its prologue or where its length goes wrong.
-use Rattle.std.proofs.Common.{◌≡◌, ℕ, zero, suc, ◌+◌, ◌-◌, ◌*◌, ◌/◌, ◌%◌, ◌^◌, ◌≤◌, Bool, true, List, [], ◌∷◌, ◌++◌, length, take, drop, Result, Ok, Err, IfOk, IfErr, IsOkAnd, inl, inr, refl, sym, ap, ◌∙◌, subst, length-append, length-drop, min, arith}
+use Rattle.std.proofs.Common.{◌≡◌, ℕ, zero, suc, ◌+◌, ◌-◌, ◌*◌, ◌≤◌, Bool, true, List, [], ◌∷◌, ◌++◌, length, take, drop, Result, Ok, Err, IfOk, IfErr, IsOkAnd, inl, inr, refl, sym, ap, ◌∙◌, subst, length-append, length-drop, min, arith}
 use Rattle.std.proofs.lemmas.Bool.{cases_lt}
+use Rattle.std.specs.List.{flat_map}
+use Rattle.std.specs.Int.{bytes_high_first}
 use Rattle.std.proofs.lemmas.List.{take_at, drop_at}
-use Rattle.vrt_words.specs.Words.{word_of, words_of, AreWords, AreBytes}
+use Rattle.vrt_words.specs.Words.{words_of, AreWords, AreBytes}
 use Rattle.vrt_words.specs.Begins.{IsDatagram, IsRefusedAt, IsRefused}
-use Rattle.vrt_words.proofs.WordLaws.{length-words_of, words_of-drop, one_spelling, AreBytes-drop}
+use Rattle.vrt_words.proofs.WordLaws.{length-words_of, words_of-drop, words_of-spelled, length-spelled, one_spelling, AreBytes-drop}
 use Rattle.vrt_words.specs.Growing.{AreGrown, IsStoppedAt}
 use Rattle.vrt_words.specs.Sizes.{IsOtherSize}
 use Rattle.vrt_words.proofs.GrowingLaws.{refused_datagram, refused_datagram_in_front}
@@ -30,33 +32,14 @@ one_data profile a b words p q =
     same_packet a b (one_of_kind profile Data a.prologue b.prologue (take 7 words) p.prologue q.prologue)
     (one_spelling a.payload b.payload p.octets q.octets p.whole q.whole (p.payload ∙ sym q.payload))
 
--- ---- bytes that spell words
-
-bytes_of : List ℕ → List ℕ
-bytes_of [] = []
-bytes_of (w ∷ ws) = w / 2 ^ 24 % 2 ^ 8 ∷ w / 2 ^ 16 % 2 ^ 8 ∷ w / 2 ^ 8 % 2 ^ 8 ∷ w % 2 ^ 8 ∷ bytes_of ws
-
-AreBytes-bytes_of : (ws : List ℕ) → AreBytes (bytes_of ws)
-unfolding bytes_of
-AreBytes-bytes_of [] i = omega arith
-AreBytes-bytes_of (w ∷ ws) zero = omega arith
-AreBytes-bytes_of (w ∷ ws) (suc zero) = omega arith
-AreBytes-bytes_of (w ∷ ws) (suc (suc zero)) = omega arith
-AreBytes-bytes_of (w ∷ ws) (suc (suc (suc zero))) = omega arith
-AreBytes-bytes_of (w ∷ ws) (suc (suc (suc (suc i)))) = AreBytes-bytes_of ws i
-
-length-bytes_of : (ws : List ℕ) → length (bytes_of ws) ≡ 4 * length ws
-unfolding bytes_of
-length-bytes_of [] = refl
-length-bytes_of (w ∷ ws) = omega (arith, length-bytes_of ws)
-
-words_of-bytes_of : (ws : List ℕ) → AreWords ws → words_of (bytes_of ws) ≡ ws
-unfolding bytes_of
-words_of-bytes_of [] p = refl
-words_of-bytes_of (w ∷ ws) p =
-    let fits = p 0 in
-    let same : word_of (w / 2 ^ 24 % 2 ^ 8) (w / 2 ^ 16 % 2 ^ 8) (w / 2 ^ 8 % 2 ^ 8) (w % 2 ^ 8) ≡ w = omega arith in
-    ap (λ x. x ∷ words_of (bytes_of ws)) same ∙ ap (λ xs. w ∷ xs) (words_of-bytes_of ws (λ i. p (suc i)))
+-- the bytes that spell words
+spelled_bytes : (ws : List ℕ) → AreBytes (flat_map (bytes_high_first 4) ws)
+spelled_bytes [] i = omega arith
+spelled_bytes (w ∷ ws) zero = omega arith
+spelled_bytes (w ∷ ws) (suc zero) = omega arith
+spelled_bytes (w ∷ ws) (suc (suc zero)) = omega arith
+spelled_bytes (w ∷ ws) (suc (suc (suc zero))) = omega arith
+spelled_bytes (w ∷ ws) (suc (suc (suc (suc i)))) = spelled_bytes ws i
 
 -- ---- what goes on behind the prologue
 
@@ -72,19 +55,19 @@ abbrev pub size_in : Prologue → ℕ
 size_in p = p.header.size
 
 packet_in : Prologue → List ℕ → DataPacket
-packet_in p words = record { prologue = p; payload = bytes_of words }
+packet_in p words = record { prologue = p; payload = flat_map (bytes_high_first 4) words }
 
 whole : (profile : PacketProfile) (p : Prologue) (front words : List ℕ) → IsPrologueOf profile Data p front → AreWords words → 7 + length words ≡ p.header.size
     → IsData profile (packet_in p words) (front ++ words)
 unfolding packet_in
 whole profile p front words is fits all =
     let seven = seven_words profile Data p front refl is in
-    let spelled : words_of (bytes_of words) ≡ words = words_of-bytes_of words fits in
+    let spelled : words_of (flat_map (bytes_high_first 4) words) ≡ words = words_of-spelled words fits in
     record {
       prologue = subst (IsPrologueOf profile Data p) (sym (take_at front words 7 seven)) is;
       size = omega (arith, length-append front words);
-      octets = AreBytes-bytes_of words;
-      whole = length-bytes_of words ∙ ap (λ ws. 4 * length ws) (sym spelled);
+      octets = spelled_bytes words;
+      whole = length-spelled words ∙ ap (λ ws. 4 * length ws) (sym spelled);
       payload = spelled ∙ sym (drop_at front words 7 seven);
     }
 

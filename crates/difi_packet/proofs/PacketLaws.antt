@@ -16,20 +16,15 @@ use Rattle.cam_field.specs.declared.modes.Role.{Role}
 use Rattle.command_prologue.specs.CommandPrologue.{IsCommandPrologue}
 use Rattle.command_prologue.proofs.CommandPrologueLaws.{header_kind}
 use Rattle.command_prologue.specs.declared.prologue.CommandPrologue.{CommandPrologue}
-use Rattle.difi_data.specs.Data.{DataPacket, IsData}
+use Rattle.difi_data.specs.Data.{DataPacket}
 use Rattle.difi_data.proofs.DataLaws.{one_data}
-use Rattle.difi_context.specs.Context.{IsContext}
 use Rattle.difi_context.proofs.ContextLaws.{one_context}
-use Rattle.difi_version.specs.Version.{IsVersion}
 use Rattle.difi_version.proofs.VersionLaws.{one_version}
 use Rattle.command_codec.proofs.ControlLaws as controls
 use Rattle.command_codec.proofs.CancelLaws as cancels
 use Rattle.ack_codec.proofs.SizeLaws as acks
-use Rattle.command_codec.specs.Control.{IsControl}
 use Rattle.command_codec.proofs.ControlLaws.{one_control}
-use Rattle.command_codec.specs.Cancel.{IsCancel}
 use Rattle.command_codec.proofs.CancelLaws.{one_cancel}
-use Rattle.ack_codec.specs.Ack.{IsAck}
 use Rattle.ack_codec.proofs.AckLaws.{one_ack}
 use Rattle.difi_packet.specs.Packet.{PacketValue, DataValue, ContextValue, VersionValue, ControlValue, CancelValue, AckValue, IsPacket, value_of, size_in_words, IsClassified, kind_and_stream}
 use Rattle.vrt_words.specs.declared.place.Place.{Place}
@@ -106,62 +101,46 @@ same_place {V} {W} IsOne IsAny kind among up down bytes place e h =
       no_packet = λ v d. let one = down v words e d.packet in h.no_packet one.0 (record { whole = d.whole; packet = one.1 });
     }
 
--- a packet has the kind that the header tells
-kind_is : (profile : PacketProfile) (kind : Kind) (v : PacketValue) (words : List ℕ) → IsKind kind (get_or words 0 0) → IsPacket profile v words → kind_in v ≡ kind
-kind_is profile kind v words e h = one_kind (kind_in v) kind (get_or words 0 0) (kind_told profile v words h) e
+-- the values of a kind
+abbrev ValueOf : Kind → Type 0
+ValueOf kinds.Data = DataPacket
+ValueOf kinds.Context = ContextRec
+ValueOf kinds.Version = VersionRec
+ValueOf kinds.Control = Control
+ValueOf kinds.Cancel = Cancel
+ValueOf kinds.Ack = Ack
 
-data_of : (profile : PacketProfile) (v : PacketValue) (words : List ℕ) → IsKind kinds.Data (get_or words 0 0) → IsPacket profile v words → (u : DataPacket) × IsData profile u words
+abbrev value_in : (kind : Kind) → ValueOf kind → PacketValue
+value_in kinds.Data packet = DataValue packet
+value_in kinds.Context rec = ContextValue rec
+value_in kinds.Version rec = VersionValue rec
+value_in kinds.Control packet = ControlValue packet
+value_in kinds.Cancel packet = CancelValue packet
+value_in kinds.Ack packet = AckValue packet
+
+-- the packets of a kind
+abbrev pub IsPacketOf : PacketProfile → (kind : Kind) → ValueOf kind → List ℕ → Type 0
+IsPacketOf profile kind u words = IsPacket profile (value_in kind u) words
+
+-- each packet is one of its kind
+own_kind : (profile : PacketProfile) (v : PacketValue) (words : List ℕ) → IsPacket profile v words → (u : ValueOf (kind_in v)) × IsPacketOf profile (kind_in v) u words
 unfolding kind_in
-data_of profile (DataValue packet) words e h = (packet, h)
-data_of profile v words e h = absurd (cc (kind_is profile kinds.Data v words e h))
+own_kind profile (DataValue packet) words h = (packet, h)
+own_kind profile (ContextValue rec) words h = (rec, h)
+own_kind profile (VersionValue rec) words h = (rec, h)
+own_kind profile (ControlValue packet) words h = (packet, h)
+own_kind profile (CancelValue packet) words h = (packet, h)
+own_kind profile (AckValue packet) words h = (packet, h)
 
-context_of : (profile : PacketProfile) (v : PacketValue) (words : List ℕ) → IsKind kinds.Context (get_or words 0 0) → IsPacket profile v words
-    → (u : ContextRec) × IsContext profile u words
-unfolding kind_in
-context_of profile (ContextValue rec) words e h = (rec, h)
-context_of profile v words e h = absurd (cc (kind_is profile kinds.Context v words e h))
+-- and so of the kind that the header tells
+kind_is : (profile : PacketProfile) (kind : Kind) (v : PacketValue) (words : List ℕ) → IsKind kind (get_or words 0 0) → IsPacket profile v words
+    → (u : ValueOf kind) × IsPacketOf profile kind u words
+kind_is profile kind v words e h =
+    subst (λ k. (u : ValueOf k) × IsPacketOf profile k u words) (one_kind (kind_in v) kind (get_or words 0 0) (kind_told profile v words h) e) (own_kind profile v words h)
 
-version_of : (profile : PacketProfile) (v : PacketValue) (words : List ℕ) → IsKind kinds.Version (get_or words 0 0) → IsPacket profile v words
-    → (u : VersionRec) × IsVersion profile u words
-unfolding kind_in
-version_of profile (VersionValue rec) words e h = (rec, h)
-version_of profile v words e h = absurd (cc (kind_is profile kinds.Version v words e h))
-
-control_of : (profile : PacketProfile) (v : PacketValue) (words : List ℕ) → IsKind kinds.Control (get_or words 0 0) → IsPacket profile v words
-    → (u : Control) × IsControl profile u words
-unfolding kind_in
-control_of profile (ControlValue packet) words e h = (packet, h)
-control_of profile v words e h = absurd (cc (kind_is profile kinds.Control v words e h))
-
-cancel_of : (profile : PacketProfile) (v : PacketValue) (words : List ℕ) → IsKind kinds.Cancel (get_or words 0 0) → IsPacket profile v words
-    → (u : Cancel) × IsCancel profile u words
-unfolding kind_in
-cancel_of profile (CancelValue packet) words e h = (packet, h)
-cancel_of profile v words e h = absurd (cc (kind_is profile kinds.Cancel v words e h))
-
-ack_of : (profile : PacketProfile) (v : PacketValue) (words : List ℕ) → IsKind kinds.Ack (get_or words 0 0) → IsPacket profile v words → (u : Ack) × IsAck profile u words
-unfolding kind_in
-ack_of profile (AckValue packet) words e h = (packet, h)
-ack_of profile v words e h = absurd (cc (kind_is profile kinds.Ack v words e h))
-
-module _ (profile : PacketProfile) (bytes : List ℕ) (place : ℕ) where
-  pub data_place : IsKind kinds.Data (get_or (words_of bytes) 0 0) → IsRefused (IsData profile) bytes place → IsRefused (IsPacket profile) bytes place
-  data_place e h = same_place (IsData profile) (IsPacket profile) kinds.Data DataValue (λ u words p. p) (data_of profile) bytes place e h
-
-  pub context_place : IsKind kinds.Context (get_or (words_of bytes) 0 0) → IsRefused (IsContext profile) bytes place → IsRefused (IsPacket profile) bytes place
-  context_place e h = same_place (IsContext profile) (IsPacket profile) kinds.Context ContextValue (λ u words p. p) (context_of profile) bytes place e h
-
-  pub version_place : IsKind kinds.Version (get_or (words_of bytes) 0 0) → IsRefused (IsVersion profile) bytes place → IsRefused (IsPacket profile) bytes place
-  version_place e h = same_place (IsVersion profile) (IsPacket profile) kinds.Version VersionValue (λ u words p. p) (version_of profile) bytes place e h
-
-  pub control_place : IsKind kinds.Control (get_or (words_of bytes) 0 0) → IsRefused (IsControl profile) bytes place → IsRefused (IsPacket profile) bytes place
-  control_place e h = same_place (IsControl profile) (IsPacket profile) kinds.Control ControlValue (λ u words p. p) (control_of profile) bytes place e h
-
-  pub cancel_place : IsKind kinds.Cancel (get_or (words_of bytes) 0 0) → IsRefused (IsCancel profile) bytes place → IsRefused (IsPacket profile) bytes place
-  cancel_place e h = same_place (IsCancel profile) (IsPacket profile) kinds.Cancel CancelValue (λ u words p. p) (cancel_of profile) bytes place e h
-
-  pub ack_place : IsKind kinds.Ack (get_or (words_of bytes) 0 0) → IsRefused (IsAck profile) bytes place → IsRefused (IsPacket profile) bytes place
-  ack_place e h = same_place (IsAck profile) (IsPacket profile) kinds.Ack AckValue (λ u words p. p) (ack_of profile) bytes place e h
+pub place_of_kind : (profile : PacketProfile) (kind : Kind) (bytes : List ℕ) (place : ℕ) → IsKind kind (get_or (words_of bytes) 0 0)
+    → IsRefused (IsPacketOf profile kind) bytes place → IsRefused (IsPacket profile) bytes place
+place_of_kind profile kind = same_place (IsPacketOf profile kind) (IsPacket profile) kind (value_in kind) (λ u words p. p) (kind_is profile kind)
 
 -- ---- a first word of no kind
 

@@ -1,6 +1,11 @@
-//! Records in memory, which the tests of several crates read.
+//! Records in memory, which the tests of several crates read, and a player of rows of words.
 #![tactic(auto)]
 
+mod rows;
+#[cfg(test)]
+mod tests;
+
+pub use crate::rows::is_edge;
 use std::alloc::{AllocError, Global};
 
 /// The words of a context packet of stream 1 with the count 0: bandwidth 280,000 Hz, IF 70 MHz, RF

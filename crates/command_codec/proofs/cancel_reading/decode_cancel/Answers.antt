@@ -29,7 +29,7 @@ returns-in-Ok-clause-found c =
     right_cancel profile packet bytes (λ i. omega (arith, c.type_inv.bytes i))
     (subst (λ (f : CommandPrologue). IsCommandPrologue profile roles.Cancel f (take (command_words f) (words_of bytes))) (sym h.0) c.in-Ok.ensures.found.1)
     (h.1 ∙ ap (λ (f : CommandPrologue). 4 * f.prologue.header.size) (sym h.0))
-    h.2 (subst (λ (f : CommandPrologue). drop (command_words f) (words_of bytes) ≡ packet.named ∷ []) (sym h.0) h.3))
+    (h.2, subst (λ (f : CommandPrologue). drop (command_words f) (words_of bytes) ≡ packet.named ∷ []) (sym h.0) h.3))
     c.read_named.ensures.found
 
 pub returns-in-Ok-clause-refused : goal.returns-in-Ok-clause-refused

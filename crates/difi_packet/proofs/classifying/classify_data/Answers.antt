@@ -1,7 +1,8 @@
 -- The place is that of the kind.
 use Rattle.std.proofs.Common.{refl}
+use Rattle.vrt_header.specs.declared.header.Kind.TheVariants as kinds
 use Rattle.difi_packet.specs.Packet.{DataValue}
-use Rattle.difi_packet.proofs.PacketLaws.{data_place}
+use Rattle.difi_packet.proofs.PacketLaws.{place_of_kind}
 use Rattle.difi_packet.proofs.classifying.classify_data.Goals as goal
 
 pub returns-in-Ok-clause-found : goal.returns-in-Ok-clause-found
@@ -9,4 +10,4 @@ returns-in-Ok-clause-found c =
     let d = c.in-Ok.ensures.found in (DataValue _, (record { whole = d.whole; packet = d.packet }, refl))
 
 pub returns-in-Err-clause-refused : goal.returns-in-Err-clause-refused
-returns-in-Err-clause-refused c = data_place c.args.profile c.args.bytes.now c.in-Err.place.word c.requires c.in-Err.ensures.refused
+returns-in-Err-clause-refused c = place_of_kind c.args.profile kinds.Data c.args.bytes.now c.in-Err.place.word c.requires c.in-Err.ensures.refused
