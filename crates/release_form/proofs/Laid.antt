@@ -5,7 +5,7 @@ use Rattle.std.proofs.lemmas.Slice.{take-put_mid, drop-put_mid}
 use borrow.Rule.Slice.PartMut.{put_mid}
 use Rattle.vrt_words.specs.Words.{words_of}
 use Rattle.vrt_words.proofs.WordLaws.{words_of-append, same_later}
-use Rattle.vrt_time.specs.Time.{TimeStamp, stamp_of}
+use Rattle.vrt_time.specs.Time.{TimeStamp, IsStamp, stamp_of}
 use Rattle.sample_binder.specs.declared.run.Run.{Run}
 use Rattle.sample_binder.specs.declared.run.Run.TheVariants.{Bound, Uncertain, Raw}
 use Rattle.release_form.specs.Positions.{word, double, quadruple}
@@ -14,7 +14,7 @@ use Rattle.release_form.specs.Layout.{IsLaidOut, IsLateStampAt, IsOfStream, IsPo
 use Rattle.sample_binder.specs.RunRules.{AreWholeWords}
 use Rattle.release_form.specs.Sizes.{GoesWith, HasLength, part_size}
 use Rattle.release_form.specs.Release.{IsRecordOf, IsPartOf, as_read, read_run}
-use Rattle.release_form.specs.Front.{high_word, low_word, late_words, count_words, front_words, IsTyped, IsTypedRun, IsStampTyped}
+use Rattle.release_form.specs.Front.{high_word, low_word, late_words, count_words, front_words, IsTyped, IsTypedRun}
 use Rattle.release_form.specs.declared.shown.Shown.{Shown}
 use Rattle.release_form.specs.declared.shown.Shown.TheVariants.{Run as ARun, Ack, Refused, Version, End}
 
@@ -31,10 +31,10 @@ quadruple_laid n bytes i a b c d =
     omega (arith, upper, lower)
 
 stamp_laid : (stamp : TimeStamp) (bytes : List ℕ) (i : ℕ) → word bytes i ≡ stamp.seconds → word bytes (i + 1) ≡ high_word stamp.picos
-    → word bytes (i + 1 + 1) ≡ low_word stamp.picos → IsStampTyped stamp → IsStampAt stamp bytes i
-stamp_laid stamp bytes i s h l below =
+    → word bytes (i + 1 + 1) ≡ low_word stamp.picos → IsStamp stamp → IsStampAt stamp bytes i
+stamp_laid stamp bytes i s h l is =
     let picos = double_laid stamp.picos bytes (i + 1) h l in
-    record { stamp_is = ap₂ stamp_of (sym s) picos; below = omega (arith, picos, below) }
+    record { stamp_is = ap₂ stamp_of (sym s) picos; below = omega (arith, picos, is.picos_below) }
 
 port_laid : (port : ℕ) (bytes : List ℕ) (i : ℕ) → word bytes i ≡ port → port < 2 ^ 16 → IsPortAt port bytes i
 port_laid port bytes i e fits = record { port_is = sym e; fits = omega (arith, e, fits) }
@@ -87,7 +87,7 @@ run_laid stream port lost (Raw reason stamp pad) body rest bytes e fits typed =
     }
 
 late_laid : (stamp : Option TimeStamp) (body h l port reason detail : ℕ) (rest bytes : List ℕ)
-    → words_of bytes ≡ (5 ∷ body ∷ h ∷ l ∷ port ∷ reason ∷ detail ∷ late_words stamp) ++ rest → IfSome stamp IsStampTyped → IsLateStampAt stamp bytes 7
+    → words_of bytes ≡ (5 ∷ body ∷ h ∷ l ∷ port ∷ reason ∷ detail ∷ late_words stamp) ++ rest → IfSome stamp IsStamp → IsLateStampAt stamp bytes 7
 late_laid None body h l port reason detail rest bytes e typed =
     let at = λ (i : ℕ). ap (λ ws. get_or ws i 0) e in
     ap₂ stamp_of (at 7) (omega (arith, at 8, at 9))

@@ -7,7 +7,7 @@ use Rattle.difi_context.specs.Context.{field_of}
 use Rattle.sample_binder.specs.declared.reason.Reason.{Reason}
 use Rattle.sample_binder.specs.declared.run.Run.TheVariants.{Bound, Uncertain, Raw}
 use Rattle.release_form.specs.Positions.{word, double, quadruple, stamp_at}
-use Rattle.sample_binder.specs.RunRules.{AreFields}
+use Rattle.vrt_fields.specs.FieldWords.{AreFields}
 use Rattle.release_form.specs.Rules.{ObeysRefused}
 use Rattle.sample_binder.specs.Reasons.{IsReason, number_of}
 use Rattle.release_form.specs.Refusals.{refusal_number}

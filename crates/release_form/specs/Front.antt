@@ -1,6 +1,6 @@
 -- The words that a writer puts in front of the variable part.
 use Rattle.std.specs.Prelude.{◌≡◌, ℕ, ◌/◌, ◌%◌, ◌^◌, ◌<◌, List, [], ◌∷◌, ◌++◌, length, Option, Some, None, IfSome, flat_map}
-use Rattle.vrt_time.specs.Time.{TimeStamp, parts_of}
+use Rattle.vrt_time.specs.Time.{TimeStamp, IsStamp, parts_of}
 use Rattle.sample_binder.specs.declared.reason.Reason.{Reason}
 use Rattle.sample_binder.specs.declared.run.Run.{Run}
 use Rattle.sample_binder.specs.declared.run.Run.TheVariants.{Bound, Uncertain, Raw}
@@ -45,18 +45,15 @@ words_behind (End counts) = count_words counts
 abbrev pub front_words : Shown → ℕ → List ℕ
 front_words shown body = kind_of shown ∷ body ∷ words_behind shown
 
--- a port has 16 bits, picoseconds are below a second, and lists are as long as the arrays
-abbrev pub IsStampTyped : TimeStamp → Type 0
-IsStampTyped stamp = stamp.picos < 10 ^ 12
-
+-- what the types of a value say: a port has 16 bits, a stamp's numbers lie within theirs, and lists are as long as the arrays
 abbrev pub IsTypedRun : Run → Type 0
-IsTypedRun (Bound stamp first number moment fields bits) = IsStampTyped stamp × (length fields ≡ 19)
-IsTypedRun (Uncertain reason stamp first number moment bits) = IsStampTyped stamp
-IsTypedRun (Raw reason stamp pad) = IsStampTyped stamp
+IsTypedRun (Bound stamp first number moment fields bits) = IsStamp stamp × (length fields ≡ 19)
+IsTypedRun (Uncertain reason stamp first number moment bits) = IsStamp stamp
+IsTypedRun (Raw reason stamp pad) = IsStamp stamp
 
 abbrev pub IsTyped : Shown → Type 0
 IsTyped (ARun stream port lost run) = (port < 2 ^ 16) × IsTypedRun run
 IsTyped (Ack port) = port < 2 ^ 16
-IsTyped (Refused frame port reason detail stamp) = (port < 2 ^ 16) × IfSome stamp IsStampTyped
+IsTyped (Refused frame port reason detail stamp) = (port < 2 ^ 16) × IfSome stamp IsStamp
 IsTyped (Version port) = port < 2 ^ 16
 IsTyped (End counts) = length counts ≡ 7

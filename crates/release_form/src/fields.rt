@@ -1,8 +1,7 @@
 ghost use Rattle.std.specs.Prelude.{◌≡◌, ◌↔◌, IsTrue};
 ghost use Rattle.vrt_time.specs.Time.{capture_at};
 ghost use Rattle.vrt_fields.specs.declared.field.Field.TheVariants.{SampleRate};
-ghost use Rattle.difi_context.specs.Context.{field_of};
-ghost use Rattle.sample_binder.specs.RunRules.{AreFields};
+ghost use Rattle.vrt_fields.specs.FieldWords.{AreFields, field_of};
 
 use vrt_fields::{FORMAT_WORD, PayloadFormat, RATE_WORD, is_rate, rate_of};
 use vrt_time::{Moment, Stamp, capture};

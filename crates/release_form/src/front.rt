@@ -1,9 +1,9 @@
 ghost use Rattle.std.specs.Prelude.{◌≡◌, ℕ, ◌+◌, ◌*◌, ◌≤◌, [], ◌∷◌, ◌++◌, IfSome, length, take, drop};
 ghost use Rattle.vrt_words.specs.Words.{words_of};
-ghost use Rattle.vrt_time.specs.Time.{parts_of};
+ghost use Rattle.vrt_time.specs.Time.{IsStamp, parts_of};
 ghost use Rattle.sample_binder.specs.Reasons.{number_of, detail_of};
 ghost use Rattle.release_form.specs.Layout.{front_of, front_of_run, kind_of};
-ghost use Rattle.release_form.specs.Front.{high_word, low_word, front_words, run_words, moment_words, late_words, count_words, IsTyped, IsTypedRun, IsStampTyped};
+ghost use Rattle.release_form.specs.Front.{high_word, low_word, front_words, run_words, moment_words, late_words, count_words, IsTyped, IsTypedRun};
 
 use crate::shown::Shown;
 use sample_binder::{Reason, Run};
@@ -90,7 +90,7 @@ fn put_run(run: &Run, into: &mut [u8])
         }
         Run::Raw { reason, stamp, pad } => {
             put_next(into, 5, &numbers_of(*reason));
-            put_next(into, 7, &words_of_stamp(stamp));
+            put_next(into, 7, &stamp.parts());
             put_next(into, 10, &[u32::from(*pad)]);
         }
     }
@@ -102,9 +102,9 @@ fn put_span(into: &mut [u8], position: usize, stamp: &Stamp, samples: [u32; 2], 
     ensures words { words_of (take (4 * (position + 9)) into.new)
         ≡ words_of (take (4 * position) into.old) ++ (parts_of stamp.now ++ (samples ++ moment_words at.now)) }
     ensures behind { (n : ℕ) → 4 * (position + 9) ≤ n → drop n into.new ≡ drop n into.old }
-    ensures typed { IsStampTyped stamp.now }
+    ensures typed { IsStamp stamp.now }
 {
-    put_next(into, position, &words_of_stamp(stamp));
+    put_next(into, position, &stamp.parts());
     put_next(into, position + 3, &samples);
     put_next(into, position + 5, &words_of_moment(at));
 }
@@ -122,7 +122,7 @@ fn put_refused(
     ensures words { words_of (take 40 into.new) ≡ words_of (take 8 into.old)
         ++ (high_word frame ∷ low_word frame ∷ port ∷ reason ∷ detail ∷ late_words stamp.now) }
     ensures behind { drop 40 into.new ≡ drop 40 into.old }
-    ensures typed { IfSome stamp.now IsStampTyped }
+    ensures typed { IfSome stamp.now IsStamp }
 {
     put_next(
         into,
@@ -136,7 +136,7 @@ fn put_refused(
         ],
     );
     match stamp {
-        Some(stamp) => put_next(into, 7, &words_of_stamp(stamp)),
+        Some(stamp) => put_next(into, 7, &stamp.parts()),
         None => put_next(into, 7, &[0, 0, 0]),
     }
 }
@@ -168,15 +168,6 @@ fn numbers_of(reason: Reason) -> [u32; 2]
     ensures { result ≡ number_of reason ∷ detail_of reason ∷ [] }
 {
     [reason.number(), reason.detail()]
-}
-
-// The seconds, and the picoseconds in two words.
-fn words_of_stamp(stamp: &Stamp) -> [u32; 3]
-    ensures words { result ≡ parts_of stamp.now }
-    ensures typed { IsStampTyped stamp.now }
-{
-    let picos = stamp.picos();
-    [stamp.seconds(), high(picos), low(picos)]
 }
 
 // Four words.

@@ -100,7 +100,7 @@ first_rules head bytes (suc (suc (suc (suc (suc (suc (suc (suc (suc (suc (suc k)
 
 initial_rules : (head : RecordHead) (bytes : List ℕ) (place : ℕ) → AreHeadValues head → AreHeadNumbers head bytes → place < 19 → IsRightIn (head.form == 2) (Initial place) bytes
 initial_rules head bytes place values numbers h =
-    initial_by (λ k. numbers.initial.each (place - 1) (omega arith) ∙ ap (λ o. number_at o 4 bytes) (omega arith)) (numbers.initial.each place h) (rule_of_word head.initial place values.initial)
+    initial_by (λ k. numbers.initial.each (place - 1) (omega arith) ∙ ap (λ o. number_at o 4 bytes) (omega arith)) (numbers.initial.each place h) (rule_of_word head.initial place values.initial.fields)
 
 -- the bounds
 pub least_read : (limit : Limit) (bound : ℕ) (bytes : List ℕ) → IsBound bound limit → IsLimitSpelled limit bound bytes → limit.least ≡ signed_at (148 + 28 * bound) bytes

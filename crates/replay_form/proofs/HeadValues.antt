@@ -207,9 +207,11 @@ values_by head bytes fit is =
       initial = record {
         all = is.initial.all;
         fit = are_words head.initial 60 19 bytes fit is.initial;
-        rate = record { positive = (rule 11 (omega arith)).rate_high refl; least = (rule 12 (omega arith)).rate_low refl };
-        format_first = (rule 17 (omega arith)).format_first refl;
-        format_second = (rule 18 (omega arith)).format_second refl;
+        fields = record {
+          rate = record { positive = (rule 11 (omega arith)).rate_high refl; least = (rule 12 (omega arith)).rate_low refl };
+          format_first = (rule 17 (omega arith)).format_first refl;
+          format_second = (rule 18 (omega arith)).format_second refl;
+        };
       };
       bounds_all = ap length is.bounds;
       bounds = λ bound other h. limit_of_bound bound (get_or head.bounds bound other) h

@@ -3,10 +3,8 @@ use Rattle.std.specs.Prelude.{◌≡◌, ◌≢◌, ℕ, ◌+◌, ◌<◌, ◌�
 use Rattle.vrt_words.specs.Words.{AreWords}
 use Rattle.vrt_header.specs.Profile.{IsProfile}
 use Rattle.vrt_fields.specs.declared.field.Field.{Field}
-use Rattle.vrt_fields.specs.declared.field.Field.TheVariants.{SampleRate, Format}
-use Rattle.vrt_fields.specs.Field.{place_of}
-use Rattle.vrt_fields.specs.FieldWords.{IsRate}
-use Rattle.vrt_fields.specs.Format.{IsFormatFirst, IsFormatSecond}
+use Rattle.vrt_fields.specs.declared.field.Field.TheVariants.{SampleRate}
+use Rattle.vrt_fields.specs.FieldWords.{AreFields}
 use Rattle.vrt_fields.specs.declared.limit.Limit.{Limit}
 use Rattle.vrt_fields.specs.Limit.{limited_fields, IsLimit}
 use Rattle.vrt_fields.specs.declared.route.Route.{Route}
@@ -21,13 +19,11 @@ pub record AreIdentityWords (identity : Ident) : Type 0 where
   pub four : length (identity_words identity) ≡ 4
   pub fit : AreWords (identity_words identity)
 
--- the words of the initial fields, of which the rate and the payload format have rules
+-- the words of the initial fields, which are those of a context
 pub record AreInitialWords (words : List ℕ) : Type 0 where
   pub all : length words ≡ 19
   pub fit : AreWords words
-  pub rate : IsRate (slice_index words (place_of SampleRate)) (slice_index words (place_of SampleRate + 1))
-  pub format_first : IsFormatFirst (slice_index words (place_of Format))
-  pub format_second : IsFormatSecond (slice_index words (place_of Format + 1))
+  pub fields : AreFields words
 
 -- a stream goes to one port, in form 2 to up to four; each is another, and the others are 0
 pub record IsRoute (second : Bool) (route : Route) : Type 0 where

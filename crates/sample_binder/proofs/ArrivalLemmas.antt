@@ -1,7 +1,6 @@
 -- What arrivals at a window, and draining it, make of its releases.
-use Rattle.std.proofs.Common.{◌≡◌, ◌≢◌, ℕ, suc, zero, ◌+◌, ◌-◌, ◌≤◌, min, ◌&&◌, ◌==◌, not, nat_lt, Bool, true, false, cond, List, [], ◌∷◌, ◌++◌, length, take, drop, Option, Some, None, Result, Err, is_none, refl, sym, ap, ◌∙◌, subst, arith, length-append, length-drop, append_assoc}
+use Rattle.std.proofs.Common.{◌≡◌, ◌≢◌, ℕ, suc, zero, ◌+◌, ◌-◌, ◌≤◌, min, ◌&&◌, ◌==◌, not, Bool, true, false, cond, List, [], ◌∷◌, ◌++◌, length, take, drop, Option, Some, None, Result, Err, is_none, refl, sym, ap, ◌∙◌, subst, arith, length-append, length-drop, append_assoc}
 use Rattle.std.proofs.lemmas.List.{append-nil, length-take-le, nil_from_length}
-use Rattle.std.proofs.lemmas.List.Sums.{fold-append}
 use Rattle.std.proofs.Math.Seq.{drop-append_seam}
 use Rattle.std.specs.List.{AllByRecursion}
 use Rattle.vrt_time.specs.Time.{TimeStamp, moment_of}
@@ -9,7 +8,9 @@ use Rattle.reorder_window.specs.declared.entry.Entry.{Entry}
 use Rattle.reorder_window.specs.declared.arrival.Arrival.{Arrival}
 use Rattle.reorder_window.specs.declared.arrival.Arrival.TheVariants as arrival
 use Rattle.reorder_window.specs.State.{Holding, StandsFor, last_of}
-use Rattle.reorder_window.specs.Window.{AreFalling, boundary, is_late, twin, is_accepted, in_place, with_arrival, accepted, number_held, held, released, answer_accepted, answer_above, answer_by, answer, release, in_order, releases}
+use Rattle.reorder_window.specs.Window.{AreFalling, boundary, is_late, twin, is_accepted, in_place, accepted, number_held, held, released, answer_accepted, answer_above, answer_by, answer, release, in_order, releases}
+use Rattle.reorder_window.proofs.OrderLemmas.{length-in_place}
+use Rattle.reorder_window.proofs.WindowLemmas.{accepted-more}
 use Rattle.sample_binder.specs.declared.turned.Turned.{Turned}
 use Rattle.sample_binder.specs.declared.turned.Turned.TheVariants as turned
 use Rattle.sample_binder.specs.Calls.{behind, all_releases, outcome}
@@ -41,10 +42,6 @@ err_is : {R E : Type 0} (x y : E) → ◌≡◌ {A = Result R E} (Err x) (Err y)
 err_is x y e = cc
 
 module _ {T : Type 0} where
-  pub accepted-more : (size : ℕ) (arrivals : List (Entry T)) (a : Entry T) → accepted size (arrivals ++ a ∷ []) ≡ with_arrival size (accepted size arrivals) a
-  unfolding accepted
-  accepted-more size arrivals a = fold-append (with_arrival size) [] arrivals (a ∷ [])
-
   -- an arrival that is turned away
   abbrev pub IsTurned : Arrival T → Type 0
   IsTurned arrival.Kept = ⊥
@@ -160,14 +157,6 @@ module _ {T : Type 0} where
   each-drop P (suc n) (x ∷ xs) h = each-drop P n xs h.1
 
   -- one more arrival makes one more accepted at most
-  length-in_place : (a : Entry T) (xs : List (Entry T)) → length (in_place a xs) ≡ suc (length xs)
-  length-in_place a [] = refl
-  length-in_place a (x ∷ xs) = placed (nat_lt (moment_of x.stamp) (moment_of a.stamp)) (length-in_place a xs)
-    where
-      placed : (b : Bool) → length (in_place a xs) ≡ suc (length xs) → length (cond b (a ∷ x ∷ xs) (x ∷ in_place a xs)) ≡ suc (suc (length xs))
-      placed true e = refl
-      placed false e = ap suc e
-
   with_one : (a : Entry T) (xs : List (Entry T)) (b : Bool) → length (cond b (in_place a xs) xs) ≤ length xs + 1
   with_one a xs true = omega (arith, length-in_place a xs)
   with_one a xs false = omega arith
@@ -177,7 +166,7 @@ module _ {T : Type 0} where
       let xs = accepted size arrivals in
       omega (arith, ap length (accepted-more size arrivals a), with_one a xs (is_accepted size xs a))
 
-  length-in_order : (xs : List (Entry T)) → length (in_order xs) ≡ length xs
+  pub length-in_order : (xs : List (Entry T)) → length (in_order xs) ≡ length xs
   length-in_order [] = refl
   length-in_order (x ∷ xs) = omega (arith, length-append (in_order xs) (release x xs ∷ []), length-in_order xs)
 

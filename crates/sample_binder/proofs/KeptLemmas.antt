@@ -9,7 +9,7 @@ use Rattle.reorder_window.specs.declared.entry.Entry.{Entry}
 use Rattle.reorder_window.specs.declared.arrival.Arrival.{Arrival}
 use Rattle.reorder_window.specs.declared.arrival.Arrival.TheVariants as arrival
 use Rattle.reorder_window.specs.State.{Holding, StandsFor}
-use Rattle.reorder_window.specs.Window.{boundary, is_late, twin, in_place, accepted, number_held, held, released, lost_before, in_order, releases, answer_above, answer_by, answer}
+use Rattle.reorder_window.specs.Window.{boundary, is_late, twin, in_place, accepted, number_held, held, released, releases, answer_above, answer_by, answer}
 use Rattle.reorder_window.proofs.OrderLemmas.{twin-take, length-in_place}
 use Rattle.reorder_window.proofs.WindowLemmas.{accepted-falling, accepted-more}
 use Rattle.context_timeline.specs.Line.{Line}
@@ -26,6 +26,7 @@ use Rattle.sample_binder.specs.Released.{queue_with}
 use Rattle.sample_binder.specs.Due.{is_known}
 use Rattle.sample_binder.specs.Left.{runs_left_of}
 use Rattle.sample_binder.specs.Runs.{runs_of}
+use Rattle.sample_binder.proofs.ArrivalLemmas.{length-in_order}
 use Rattle.sample_binder.proofs.StateLemmas.{append_empty}
 
 module _ {T : Type 0} where
@@ -68,10 +69,6 @@ module _ {T : Type 0} where
       let alone : twin a xs ≡ None = sym (twin-take size a xs (accepted-falling size arrivals) t.0) ∙ ap (twin a) (sym (take_held size xs)) ∙ t.1 in
       let fresh : (not (is_late (boundary size xs) a) && is_none (twin a xs)) ≡ true = ap (λ b. not b && is_none (twin a xs)) t.0 ∙ ap is_none alone in
       ap length (accepted-more size arrivals a ∙ ap (λ b. cond b (in_place a xs) xs) fresh) ∙ length-in_place a xs
-
-  length-in_order : (xs : List (Entry T)) → length (in_order xs) ≡ length xs
-  length-in_order [] = refl
-  length-in_order (x ∷ xs) = omega (arith, length-append (in_order xs) ((x.stamp, lost_before x xs, x.item) ∷ []), length-in_order xs)
 
   -- those that are held and those that were released are those that were accepted
   held_and_released : (w : Holding T) (arrivals : List (Entry T)) → StandsFor w arrivals 0 → length w.held + length (releases w.size arrivals 0) ≡ length (accepted w.size arrivals)

@@ -11,7 +11,7 @@ use Rattle.context_timeline.specs.declared.mark.Mark.TheVariants as mark
 use Rattle.context_timeline.specs.Line.{Line, horizon_of, moments}
 use Rattle.context_timeline.proofs.LineLaws.{moment_at}
 use Rattle.context_timeline.specs.Marks.{last_below, last_not_after, healed, mark_between, mark_below, mark_in, is_below}
-use Rattle.sample_binder.specs.RunRules.{AreFields}
+use Rattle.vrt_fields.specs.FieldWords.{AreFields}
 use Rattle.sample_binder.specs.Sound.{HasSampling}
 
 -- the fields of a context in the grammar

@@ -19,7 +19,8 @@ use Rattle.sample_binder.specs.Parts.{samples_of, samples_in}
 use Rattle.sample_binder.specs.Queue.{IsShape}
 use Rattle.sample_binder.specs.Readings.{AreStretches}
 use Rattle.sample_binder.specs.Reasons.{number_of as number_of_reason, IsInTable}
-use Rattle.sample_binder.specs.RunRules.{AreFields, AreIndices, HoldsRun, IsWritable}
+use Rattle.vrt_fields.specs.FieldWords.{AreFields}
+use Rattle.sample_binder.specs.RunRules.{AreIndices, HoldsRun, IsWritable}
 use Rattle.sample_binder.specs.Runs.{same_sampling, label_by, label_at, cut, run_by, run_at, raw, runs_bound, runs_by, runs_of}
 use Rattle.sample_binder.specs.Samples.{rate_in, size_in, number_of, used_bits}
 use Rattle.sample_binder.proofs.LawLemmas.{longest_told}

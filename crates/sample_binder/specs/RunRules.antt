@@ -1,20 +1,13 @@
 -- What holds of the values of each run, and of the payload of its packet, so that it can be written.
-use Rattle.std.specs.Prelude.{◌≡◌, ◌≢◌, ℕ, ◌+◌, ◌%◌, ◌<◌, ◌≤◌, ◌^◌, List, slice_index}
+use Rattle.std.specs.Prelude.{◌≡◌, ◌≢◌, ℕ, ◌+◌, ◌%◌, ◌<◌, ◌≤◌, ◌^◌, List}
 use Rattle.vrt_time.specs.Time.{TimeStamp, capture_at}
-use Rattle.vrt_fields.specs.Format.{IsFormatFirst, IsFormatSecond}
+use Rattle.vrt_fields.specs.FieldWords.{AreFields, field_of}
 use Rattle.vrt_fields.specs.declared.field.Field.TheVariants.{SampleRate}
-use Rattle.difi_context.specs.Context.{IsRate, field_of}
 use Rattle.sample_unpack.specs.Samples.{LieWithin}
 use Rattle.sample_binder.specs.declared.reason.Reason.{Reason}
 use Rattle.sample_binder.specs.declared.run.Run.{Run}
 use Rattle.sample_binder.specs.declared.run.Run.TheVariants.{Bound, Uncertain, Raw}
 use Rattle.sample_binder.specs.Reasons.{number_of, IsInTable}
-
--- the words of the fields of a context
-pub record AreFields (fields : List ℕ) : Type 0 where
-  pub rate : IsRate (slice_index fields 11) (slice_index fields 12)
-  pub format_first : IsFormatFirst (slice_index fields 17)
-  pub format_second : IsFormatSecond (slice_index fields 18)
 
 -- there is a sample, and the indices of all are numbers of 32 bits
 pub record AreIndices (first number : ℕ) : Type 0 where

@@ -1,6 +1,8 @@
 -- The runs in which a due packet leaves.
-use Rattle.std.specs.Prelude.{ℕ, suc, zero, ◌-◌, ◌==◌, ◌&&◌, not, nat_lt, Bool, true, false, if◌then◌else◌, List, [], ◌∷◌, slice_index, map, Option, Some, None}
+use Rattle.std.specs.Prelude.{ℕ, suc, zero, ◌+◌, ◌-◌, ◌==◌, ◌&&◌, not, nat_lt, Bool, true, false, if◌then◌else◌, List, [], ◌∷◌, slice_index, map, Option, Some, None}
 use Rattle.vrt_time.specs.Time.{TimeStamp, moment_of, capture_at}
+use Rattle.vrt_fields.specs.Field.{place_of}
+use Rattle.vrt_fields.specs.declared.field.Field.TheVariants.{Format}
 use Rattle.context_timeline.specs.declared.mark.Mark.{Mark}
 use Rattle.context_timeline.specs.declared.mark.Mark.TheVariants as mark
 use Rattle.context_timeline.specs.Line.{Line}
@@ -17,7 +19,9 @@ use Rattle.sample_binder.specs.Samples.{rate_in, size_in, number_of}
 
 -- the sample rates and the payload formats of two contexts are the same
 abbrev pub same_sampling : List ℕ → List ℕ → Bool
-same_sampling a b = rate_in a == rate_in b && slice_index a 17 == slice_index b 17 && slice_index a 18 == slice_index b 18
+same_sampling a b =
+    rate_in a == rate_in b && slice_index a (place_of Format) == slice_index b (place_of Format)
+    && slice_index a (place_of Format + 1) == slice_index b (place_of Format + 1)
 
 -- what is known of a sample of this mark in a packet whose first sample has a context with the fields `first`; where it is
 -- open, it is uncertain for the reason for which the packet waits no longer

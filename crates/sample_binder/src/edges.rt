@@ -2,51 +2,43 @@
 use crate::harness::*;
 use crate::script::Step::{Bound, Context, Data, End, Nothing, Packet, Raw, Uncertain};
 use crate::script::{Step, Wrong, play};
-use crate::tests::{FASTER, FOUR, LIMITS, NARROW, ONE, SLOW, SLOW_OTHER_GAIN, TWO};
+use crate::tests::{
+    FASTER, FOUR, LIMITS, NARROW, ONE, ONE_HELD, PLAIN, SLOW, SLOW_OTHER_GAIN, TWO,
+    across_a_context, across_a_loss, across_lost_packets,
+};
 use crate::{Limits, Reason};
 use std::alloc::Global;
 
 /// Windows of size 0, of which more contexts are kept.
-const EIGHT_KEPT: Limits = Limits {
-    data_window: 0,
-    context_window: 0,
-    kept: 8,
-    pending: 8,
-};
+const EIGHT_KEPT: Limits = Limits { kept: 8, ..LIMITS };
 
 /// Windows of size 1, and one packet may wait.
 const HELD_AND_ONE_WAITS: Limits = Limits {
-    data_window: 1,
-    context_window: 1,
-    kept: 4,
     pending: 1,
+    ..ONE_HELD
 };
 
 /// 2 Hz and 16 bits an item, in the other packing.
 const OTHER_PACKING: Tuning = Tuning {
-    gain: 0x500,
-    rate: (0, 0x0020_0000),
     format: 0x2000_03CF,
+    ..SLOW
 };
 
 /// 2^-20 Hz more than 2 Hz.
 const HARDLY_FASTER: Tuning = Tuning {
-    gain: 0x500,
     rate: (0, 0x0020_0001),
-    format: 0xA000_03CF,
+    ..SLOW
 };
 
 /// 1 Hz, the least rate.
 const SLOWEST: Tuning = Tuning {
-    gain: 0x500,
     rate: (0, 0x0010_0000),
-    format: 0xA000_03CF,
+    ..SLOW
 };
 
 const SLOWEST_OTHER_GAIN: Tuning = Tuning {
     gain: 0x600,
-    rate: (0, 0x0010_0000),
-    format: 0xA000_03CF,
+    ..SLOWEST
 };
 
 // The last of the four samples is captured at 1.5 s, the stamp of the second context.
@@ -99,20 +91,10 @@ fn a_sample_at_the_horizon_is_uncertain_at_the_end(rt: HostRuntime) -> Result<()
     play(rt.alloc(), LIMITS, &steps)
 }
 
-// Contexts at 0 s, at 1 s with this tuning, and at 2 s, and then four samples from 0 s on, of which two are bound and two
-// leave with this run.
+// Four samples across a context at 1 s with this tuning, of which two are bound and two leave with this run.
 fn two_bound_and(alloc: Global, second: Tuning, run: Step) -> Result<(), Wrong> {
-    let steps = [
-        Context(START, 0, CHANGED, SLOW),
-        Context(ONE_SECOND, 1, CHANGED, second),
-        Context(TWO_SECONDS, 2, CHANGED, SLOW),
-        Data(START, 0, FOUR),
-        Packet(0),
-        Bound(START, 0, 2, START, SLOW, 16),
-        run,
-        Nothing,
-    ];
-    play(alloc, LIMITS, &steps)
+    let second = Context(ONE_SECOND, 1, CHANGED, second);
+    across_a_context(alloc, second, Bound(START, 0, 2, START, SLOW, 16), run)
 }
 
 /// The last two of four samples, of another format.
@@ -196,34 +178,16 @@ fn another_format_over_two_contexts_is_one_stretch(rt: HostRuntime) -> Result<()
     four_under_four(rt.alloc(), [1, 2, 3, 4], [FASTER, NARROW], rest)
 }
 
-// The second context has the count of the first: fifteen were lost between them.
+// The third context has the count of the second: fifteen were lost between them.
 #[test]
 fn fifteen_contexts_lost_are_told(rt: HostRuntime) -> Result<(), Wrong> {
-    let steps = [
-        Context(START, 3, CHANGED, SLOW),
-        Context(ONE_SECOND, 3, UNCHANGED, SLOW),
-        Data(HALF_PAST, 0, ONE),
-        Packet(0),
-        Raw(Reason::ContextLost(15), HALF_PAST, 0),
-        Nothing,
-    ];
-    play(rt.alloc(), LIMITS, &steps)
+    let run = Raw(Reason::ContextLost(15), ONE_AND_A_HALF, 0);
+    across_a_loss(rt.alloc(), Context(THREE_SECONDS, 1, UNCHANGED, PLAIN), run)
 }
 
 #[test]
 fn fifteen_packets_lost_are_told(rt: HostRuntime) -> Result<(), Wrong> {
-    let steps = [
-        Context(START, 0, CHANGED, SLOW),
-        Context(THREE_SECONDS, 1, CHANGED, SLOW),
-        Data(START, 7, ONE),
-        Packet(0),
-        Bound(START, 0, 1, START, SLOW, 16),
-        Data(ONE_SECOND, 7, ONE),
-        Packet(15),
-        Bound(ONE_SECOND, 0, 1, ONE_SECOND, SLOW, 16),
-        Nothing,
-    ];
-    play(rt.alloc(), LIMITS, &steps)
+    across_lost_packets(rt.alloc(), [7, 7], 15)
 }
 
 // At the end the held context comes first, and then one more packet than may wait: the first was due before it.

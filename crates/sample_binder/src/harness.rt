@@ -1,13 +1,15 @@
-ghost use Rattle.std.specs.Prelude.{◌≡◌, ◌≤◌, IsTrue, IfOk, length};
+ghost use Rattle.std.specs.Prelude.{◌≡◌, IsTrue, IfOk};
 ghost use Rattle.vrt_header.specs.Profile.{profile_of};
 ghost use Rattle.difi_context.specs.Context.{IsSpelled};
 ghost use Rattle.sample_binder.specs.Given.{IsDataOf};
 
 use difi_context::ContextRec;
 use std::alloc::Global;
+use test_records::BASE;
+use vrt_fields::{FORMAT_WORD, Field, RATE_WORD};
 use vrt_header::Profile;
 use vrt_time::{Moment, Stamp};
-use vrt_words::{PacketBuf, put_word};
+use vrt_words::{PacketBuf, put_word, put_words};
 
 /// A time on the test's clock: so many halves of a second after 1,699,999,999 s.
 #[derive(Clone, Copy)]
@@ -43,58 +45,30 @@ pub(crate) struct Tuning {
     pub(crate) format: u32,
 }
 
-/// The words of the fields of a context, of 350,000 Hz and 16 bits.
-const FIELDS: [u32; 19] = [
-    0x64,
-    0x44,
-    0x5C00_0000,
-    0x42C1,
-    0xD800_0000,
-    0x0004_7868,
-    0xC000_0000,
-    0,
-    0,
-    0,
-    0x500,
-    0x55,
-    0x7300_0000,
-    0,
-    0,
-    0,
-    0xC00C_0000,
-    0xA000_03CF,
-    0,
-];
-
 /// The words of the twelve fields.
 pub(crate) fn fields(tuning: Tuning) -> [u32; 19] {
-    let mut fields = FIELDS;
-    fields[10] = tuning.gain;
-    fields[11] = tuning.rate.0;
-    fields[12] = tuning.rate.1;
-    fields[17] = tuning.format;
+    let mut fields = [0; 19];
+    fields.copy_from_slice(&BASE[8..]);
+    fields[Field::Gain.place()] = tuning.gain;
+    fields[RATE_WORD] = tuning.rate.0;
+    fields[RATE_WORD + 1] = tuning.rate.1;
+    fields[FORMAT_WORD] = tuning.format;
     fields
 }
 
-fn seconds(time: Time) -> u32 {
-    1_699_999_999 + u32::from(time.0 / 2)
-}
-
-// A half of a second is 0x74_6A52_8800 picoseconds.
-fn fraction(time: Time) -> (u32, u32) {
+// The words of the stamp of a packet. A half of a second is 0x74_6A52_8800 picoseconds.
+fn words_of_time(time: Time) -> [u32; 3] {
+    let seconds = 1_699_999_999 + u32::from(time.0 / 2);
     if time.0 % 2 == 0 {
-        (0, 0)
+        [seconds, 0, 0]
     } else {
-        (0x74, 0x6A52_8800)
+        [seconds, 0x74, 0x6A52_8800]
     }
 }
 
 pub(crate) fn stamp(time: Time) -> Result<Stamp, &'static str> {
-    let (high, low) = fraction(time);
-    match Stamp::of_parts(seconds(time), high, low) {
-        Some(stamp) => Ok(stamp),
-        None => Err("no stamp"),
-    }
+    let [seconds, high, low] = words_of_time(time);
+    Stamp::of_parts(seconds, high, low).ok_or("no stamp")
 }
 
 pub(crate) fn moment(time: Time) -> Moment {
@@ -105,35 +79,18 @@ pub(crate) fn moment(time: Time) -> Moment {
 pub(crate) fn profile() -> Result<Profile, &'static str>
     ensures { IfOk result (λ profile. profile ≡ profile_of 0x6A621E 1) }
 {
-    match Profile::of(0x6A_621E, 1) {
-        Some(profile) => Ok(profile),
-        None => Err("no profile"),
-    }
-}
-
-// Writes the first seven words of a packet.
-fn put_prologue(bytes: &mut [u8], first: u32, pad: u8, time: Time)
-    requires { 28 ≤ length bytes.old }
-{
-    let (high, low) = fraction(time);
-    put_word(bytes, 0, first);
-    put_word(bytes, 1, 1);
-    put_word(bytes, 2, 0x006A_621E + (u32::from(pad % 32) << 27));
-    put_word(bytes, 4, seconds(time));
-    put_word(bytes, 5, high);
-    put_word(bytes, 6, low);
+    Profile::of(0x6A_621E, 1).ok_or("no profile")
 }
 
 // The bytes of a context packet.
-fn spelled(time: Time, count: u8, cif0: u32, fields: &[u32; 19]) -> [u8; 108] {
+fn spelled(time: Time, count: u8, cif0: u32, tuning: Tuning) -> [u8; 108] {
+    let mut words = BASE;
+    words[0] |= u32::from(count % 16) << 16;
+    words[4..7].copy_from_slice(&words_of_time(time));
+    words[7] = cif0;
+    words[8..].copy_from_slice(&fields(tuning));
     let mut bytes = [0; 108];
-    let first = 0x4960_001B + (u32::from(count % 16) << 16);
-    put_prologue(&mut bytes, first, 0, time);
-    put_word(&mut bytes, 3, 1);
-    put_word(&mut bytes, 7, cif0);
-    for (i, word) in fields.iter().enumerate() {
-        put_word(&mut bytes, 8 + i, *word);
-    }
+    put_words(&mut bytes, 0, &words);
     bytes
 }
 
@@ -145,8 +102,7 @@ pub(crate) fn context(
 ) -> Result<ContextRec, &'static str>
     ensures { IfOk result (λ rec. IsSpelled (profile_of 0x6A621E 1) rec) }
 {
-    let bytes = spelled(time, count, cif0, &fields(tuning));
-    match difi_context::decode(profile()?, &bytes) {
+    match difi_context::decode(profile()?, &spelled(time, count, cif0, tuning)) {
         Ok(rec) => Ok(rec),
         Err(_) => Err("no context"),
     }
@@ -179,7 +135,9 @@ pub(crate) fn packet(
         return Err("memory");
     };
     let first = 0x1860_0000 + (u32::from(count % 16) << 16) + words;
-    put_prologue(&mut bytes, first, payload.pad, time);
+    let class = 0x006A_621E + (u32::from(payload.pad % 32) << 27);
+    put_words(&mut bytes, 0, &[first, 1, class, 0]);
+    put_words(&mut bytes, 4, &words_of_time(time));
     put_front(&mut bytes[28..], &payload.front);
     let Ok(mut buf) = PacketBuf::open(alloc, words) else {
         return Err("memory");

@@ -4,6 +4,7 @@ ghost use Rattle.sample_binder.specs.Runs.{same_sampling, label_by, same_reason,
 use crate::reason::Reason;
 use crate::sampling::rate_of;
 use context_timeline::Mark;
+use vrt_fields::FORMAT_WORD;
 
 /// What is known of one sample.
 #[derive(Clone, Copy)]
@@ -43,7 +44,9 @@ pub(crate) fn label_of(first: &[u32; 19], why: Reason, mark: Mark) -> Label
 fn has_same_sampling(a: &[u32; 19], b: &[u32; 19]) -> bool
     ensures { result ≡ same_sampling a.now b.now }
 {
-    rate_of(a) == rate_of(b) && a[17] == b[17] && a[18] == b[18]
+    rate_of(a) == rate_of(b)
+        && a[FORMAT_WORD] == b[FORMAT_WORD]
+        && a[FORMAT_WORD + 1] == b[FORMAT_WORD + 1]
 }
 
 // Whether two samples belong into one stretch.

@@ -88,33 +88,34 @@ impl Player {
         Ok(())
     }
 
+    // The next output.
+    fn next(&mut self) -> Result<Out, &'static str> {
+        if self.binder.owes() {
+            self.binder.next_out().ok_or("nothing")
+        } else {
+            Err("nothing")
+        }
+    }
+
     // The next output, which is to be a packet: the number lost before it.
     pub(crate) fn packet(&mut self) -> Result<u8, &'static str> {
-        if !self.binder.owes() {
-            return Err("nothing");
-        }
-        match self.binder.next_out() {
-            Some(Out::Packet { buf, lost }) => {
+        match self.next()? {
+            Out::Packet { buf, lost } => {
                 drop(buf);
                 Ok(lost)
             }
-            Some(Out::Run(_)) => Err("a run"),
-            None => Err("nothing"),
+            Out::Run(_) => Err("a run"),
         }
     }
 
     // The next output, which is to be a run.
     pub(crate) fn run(&mut self) -> Result<Run, &'static str> {
-        if !self.binder.owes() {
-            return Err("nothing");
-        }
-        match self.binder.next_out() {
-            Some(Out::Run(run)) => Ok(run),
-            Some(Out::Packet { buf, lost: _ }) => {
+        match self.next()? {
+            Out::Run(run) => Ok(run),
+            Out::Packet { buf, lost: _ } => {
                 drop(buf);
                 Err("a packet")
             }
-            None => Err("nothing"),
         }
     }
 

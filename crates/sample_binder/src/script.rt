@@ -91,11 +91,8 @@ fn give_context(
         Some(answer) => Some(turned_by(answer)?),
         None => None,
     };
-    if player.context(context(time, count, cif0, tuning)?)? == wanted {
-        Ok(())
-    } else {
-        Err("another answer")
-    }
+    let given = player.context(context(time, count, cif0, tuning)?)?;
+    check(given == wanted, "another answer")
 }
 
 fn give_data(
@@ -126,11 +123,13 @@ fn turn_data(
     let Some((turned, buf)) = player.data(packet(alloc, time, count, payload)?)? else {
         return Err("taken");
     };
-    if turned == turned_by(answer)? && buf.bytes() == given.bytes() {
-        Ok(())
-    } else {
-        Err("another answer")
-    }
+    let is_wanted = turned == turned_by(answer)? && buf.bytes() == given.bytes();
+    check(is_wanted, "another answer")
+}
+
+// It is as wanted, or else this is wrong.
+fn check(is_wanted: bool, why: &'static str) -> Result<(), &'static str> {
+    if is_wanted { Ok(()) } else { Err(why) }
 }
 
 fn turned_by(answer: Answer) -> Result<Turned, &'static str> {
@@ -144,21 +143,9 @@ fn turned_by(answer: Answer) -> Result<Turned, &'static str> {
 // The next output is that of the step.
 fn expect(player: &mut Player, step: &Step) -> Result<(), &'static str> {
     match *step {
-        Step::Packet(lost) => {
-            if player.packet()? == lost {
-                Ok(())
-            } else {
-                Err("another number lost")
-            }
-        }
+        Step::Packet(lost) => check(player.packet()? == lost, "another number lost"),
         Step::Nothing => player.nothing(),
-        _ => {
-            if player.run()? == run_of(step)? {
-                Ok(())
-            } else {
-                Err("another run")
-            }
-        }
+        _ => check(player.run()? == run_of(step)?, "another run"),
     }
 }
 

@@ -15,36 +15,26 @@ pub(crate) const LIMITS: Limits = Limits {
 };
 
 const ONE_WAITS: Limits = Limits {
-    data_window: 0,
-    context_window: 0,
-    kept: 4,
     pending: 1,
+    ..LIMITS
 };
 
 const TWO_WAIT: Limits = Limits {
-    data_window: 0,
-    context_window: 0,
-    kept: 4,
     pending: 2,
+    ..LIMITS
 };
 
-const TWO_KEPT: Limits = Limits {
-    data_window: 0,
-    context_window: 0,
-    kept: 2,
-    pending: 8,
-};
+const TWO_KEPT: Limits = Limits { kept: 2, ..LIMITS };
 
 /// Windows of size 1.
-const ONE_HELD: Limits = Limits {
+pub(crate) const ONE_HELD: Limits = Limits {
     data_window: 1,
     context_window: 1,
-    kept: 4,
-    pending: 8,
+    ..LIMITS
 };
 
 /// 350,000 Hz, and 16 bits an item.
-const PLAIN: Tuning = Tuning {
+pub(crate) const PLAIN: Tuning = Tuning {
     gain: 0x500,
     rate: (0x55, 0x7300_0000),
     format: 0xA000_03CF,
@@ -52,47 +42,40 @@ const PLAIN: Tuning = Tuning {
 
 const OTHER_GAIN: Tuning = Tuning {
     gain: 0x600,
-    rate: (0x55, 0x7300_0000),
-    format: 0xA000_03CF,
+    ..PLAIN
 };
 
 /// 2 Hz and 4 Hz, and 16 bits an item.
 pub(crate) const SLOW: Tuning = Tuning {
-    gain: 0x500,
     rate: (0, 0x0020_0000),
-    format: 0xA000_03CF,
+    ..PLAIN
 };
 
 pub(crate) const SLOW_OTHER_GAIN: Tuning = Tuning {
     gain: 0x600,
-    rate: (0, 0x0020_0000),
-    format: 0xA000_03CF,
+    ..SLOW
 };
 
 pub(crate) const FASTER: Tuning = Tuning {
-    gain: 0x500,
     rate: (0, 0x0040_0000),
-    format: 0xA000_03CF,
+    ..PLAIN
 };
 
 /// 2 Hz, and 4 bits an item.
 pub(crate) const NARROW: Tuning = Tuning {
-    gain: 0x500,
-    rate: (0, 0x0020_0000),
     format: 0xA000_00C3,
+    ..SLOW
 };
 
 /// 32,738 Hz, and 4 bits an item.
 const LONG: Tuning = Tuning {
-    gain: 0x500,
     rate: (7, 0xFE20_0000),
-    format: 0xA000_00C3,
+    ..NARROW
 };
 
 const LONG_OTHER_GAIN: Tuning = Tuning {
     gain: 0x600,
-    rate: (7, 0xFE20_0000),
-    format: 0xA000_00C3,
+    ..LONG
 };
 
 /// One, two and four samples of two items of 16 bits.
@@ -149,7 +132,7 @@ fn a_packet_leaves_at_the_second_context(rt: HostRuntime) -> Result<(), Wrong> {
 }
 
 // Contexts at 0 and 1 s and this one, and then a packet at 1.5 s, which leaves with this run.
-fn across_a_loss(alloc: Global, third: Step, run: Step) -> Result<(), Wrong> {
+pub(crate) fn across_a_loss(alloc: Global, third: Step, run: Step) -> Result<(), Wrong> {
     let steps = [
         Context(START, 0, CHANGED, PLAIN),
         Context(ONE_SECOND, 1, CHANGED, PLAIN),
@@ -191,7 +174,7 @@ fn two_lost_contexts_are_not_healed(rt: HostRuntime) -> Result<(), Wrong> {
 }
 
 // Contexts at 0 s, this one, and at 2 s, and then four samples from 0 s on, at 2 Hz, which leave with these runs.
-fn across_a_context(
+pub(crate) fn across_a_context(
     alloc: Global,
     second: Step,
     first_run: Step,
@@ -347,20 +330,25 @@ fn a_payload_that_does_not_divide_leaves_whole(rt: HostRuntime) -> Result<(), Wr
     play(rt.alloc(), LIMITS, &steps)
 }
 
-#[test]
-fn the_number_of_packets_lost_is_told(rt: HostRuntime) -> Result<(), Wrong> {
+// Two packets with these counts, of which the second leaves with so many lost before it.
+pub(crate) fn across_lost_packets(alloc: Global, counts: [u8; 2], lost: u8) -> Result<(), Wrong> {
     let steps = [
         Context(START, 0, CHANGED, PLAIN),
         Context(THREE_SECONDS, 1, CHANGED, PLAIN),
-        Data(START, 15, ONE),
+        Data(START, counts[0], ONE),
         Packet(0),
         Bound(START, 0, 1, START, PLAIN, 16),
-        Data(ONE_SECOND, 2, ONE),
-        Packet(2),
+        Data(ONE_SECOND, counts[1], ONE),
+        Packet(lost),
         Bound(ONE_SECOND, 0, 1, ONE_SECOND, PLAIN, 16),
         Nothing,
     ];
-    play(rt.alloc(), LIMITS, &steps)
+    play(alloc, LIMITS, &steps)
+}
+
+#[test]
+fn the_number_of_packets_lost_is_told(rt: HostRuntime) -> Result<(), Wrong> {
+    across_lost_packets(rt.alloc(), [15, 2], 2)
 }
 
 #[test]

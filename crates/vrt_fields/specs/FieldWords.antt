@@ -1,7 +1,8 @@
--- The nineteen words of all twelve fields, as a context has them: what each field tells there, and the rule of the rate.
+-- The nineteen words of all twelve fields, as a context has them: what each field tells there, and the rules of the rate and
+-- of the payload format.
 use Rattle.std.specs.Prelude.{ℕ, ◌+◌, ◌*◌, ◌^◌, ◌<◌, ◌≤◌, ◌==◌, if◌then◌else◌, List, slice_index}
 use Rattle.vrt_fields.specs.Field.{width_of, place_of}
-use Rattle.vrt_fields.specs.Format.{item_size}
+use Rattle.vrt_fields.specs.Format.{item_size, IsFormatFirst, IsFormatSecond}
 use Rattle.vrt_fields.specs.declared.field.Field.{Field}
 use Rattle.vrt_fields.specs.declared.field.Field.TheVariants.{SampleRate, Format}
 
@@ -26,3 +27,9 @@ size_in words = item_size (format_in words)
 pub record IsRate (high low : ℕ) : Type 0 where
   pub positive : high < 2 ^ 31
   pub least : 2 ^ 20 ≤ high * 2 ^ 32 + low
+
+-- the words of the fields of a context: the rate and the payload format obey their rules
+pub record AreFields (words : List ℕ) : Type 0 where
+  pub rate : IsRate (slice_index words (place_of SampleRate)) (slice_index words (place_of SampleRate + 1))
+  pub format_first : IsFormatFirst (slice_index words (place_of Format))
+  pub format_second : IsFormatSecond (slice_index words (place_of Format + 1))

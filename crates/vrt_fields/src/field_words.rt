@@ -1,5 +1,6 @@
 ghost use Rattle.std.specs.Prelude.{◌≡◌, ◌≤◌, ◌<◌, ◌+◌, ◌≤ℤ◌, ◌^◌, ◌↔◌, IsTrue, pos, slice_index};
 ghost use Rattle.vrt_fields.specs.Field.{place_of, width_of};
+ghost use Rattle.vrt_fields.specs.declared.field.Field.TheVariants.{SampleRate};
 ghost use Rattle.vrt_fields.specs.FieldWords.{IsRate, field_of, rate_in, size_in};
 
 use crate::field::Field;
@@ -71,7 +72,7 @@ pub fn raw_rate(words: &[u32; 19]) -> u64
 /// The sample rate among the words of all fields, in units of 2^-20 Hz.
 #[inline]
 pub fn rate_of(words: &[u32; 19]) -> i64
-    requires { IsRate (slice_index words.now 11) (slice_index words.now 12) }
+    requires { IsRate (slice_index words.now (place_of SampleRate)) (slice_index words.now (place_of SampleRate + 1)) }
     ensures rate { result ≡ pos (rate_in words.now) }
     ensures least { pos (2 ^ 20) ≤ℤ result }
 {

@@ -58,7 +58,7 @@ fn push_zeros(into: &mut Vec<u8>, number: usize)
 }
 
 /// Puts a number behind the bytes, in decimal digits with its sign where it is negative, where there
-/// is room for 20.
+/// is room for 21.
 pub fn push_signed(into: &mut Vec<u8>, number: i64)
     requires { vec_len into.old + 21 ≤ vec_capacity into.old }
     ensures text { into.new.items ≡ into.old.items ++ signed_decimal number }

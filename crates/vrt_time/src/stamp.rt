@@ -61,6 +61,7 @@ impl Stamp {
         ensures words { result ≡ parts_of self.now }
         ensures again { stamp_of (slice_index result 0) (fraction_of (slice_index result 1) (slice_index result 2))
             ≡ self.now }
+        ensures within { IsStamp self.now }
     {
         [
             self.seconds,

@@ -15,7 +15,7 @@ returns-in-Uncertain-clause-behind c =
 pub returns-in-Raw-clause-behind : goal.returns-in-Raw-clause-behind
 returns-in-Raw-clause-behind c =
     let why = ap length c.numbers_of-in-Raw.ensures in
-    let stamp = ap length c.words_of_stamp.ensures.words in
+    let stamp = ap length c.parts.ensures.words in
     rw c.in-Raw.is
     (c.put_next-in-Raw-3.ensures.behind 44 (omega arith) ∙ c.put_next-in-Raw-2.ensures.behind 44 (omega (arith, stamp))
     ∙ c.put_next-in-Raw.ensures.behind 44 (omega (arith, why)))
