@@ -1,10 +1,7 @@
 pub mod TextLaws
 pub mod OneText
 pub mod OneStatus
-pub mod Texts
-pub mod Feeding
-pub mod Outcomes
-pub mod Complete
+pub mod Telling
 pub mod ClapOptions
 pub mod ClapTurns
 pub mod ClapWalk

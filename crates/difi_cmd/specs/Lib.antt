@@ -1,6 +1,4 @@
-pub mod Status
 pub mod Text
-pub mod Progress
+pub mod Telling
 pub mod LineOfWords
 pub mod Outcome
-pub mod Steps

@@ -2,9 +2,8 @@
 use Rattle.std.specs.Prelude.{◌≡◌, ℕ, ◌*◌, ◌<◌, ◌≤◌, ◌⊎◌, List, [], ◌∷◌, ◌++◌, length}
 use Rattle.vrt_words.specs.Begins.{IsDatagram, IsRefused}
 use Rattle.difi_packet.specs.Packet.{PacketValue, IsPacket}
-use Rattle.replay_form.specs.HeadFields.{IsHeadPart, IsHeadWrongAt}
-use Rattle.replay_form.specs.FrameFields.{Frame, IsFramePart, IsFrameWrongAt}
-use Rattle.replay_form.specs.Record.{first_stamp, last_stamp, IsCut, IsRecord}
+use Rattle.replay_form.specs.FrameFields.{Frame}
+use Rattle.replay_form.specs.Record.{IsRecord}
 use Rattle.replay_form.specs.Standing.{HasNoHead, HasFrames}
 use Rattle.replay_form.specs.declared.record_head.RecordHead.{RecordHead}
 use Rattle.difi_texts.specs.declared.lines.Judgement.{Judgement}
@@ -54,8 +53,12 @@ IsPart listing bytes text =
     (HasNoHead bytes × (text ≡ []))
     ⊎ ((head : RecordHead) × ((frames : List Frame) × (HasFrames head frames bytes × AreEntries listing head frames text)))
 
+-- the entries of these frames, and the last line
+abbrev pub IsWholeText : Listing → RecordHead → List Frame → List ℕ → Type 0
+IsWholeText listing head frames text =
+    (accounts : List Account) × (AreAccounts listing head frames accounts × (text ≡ entries 1 accounts ++ summary accounts))
+
 -- the bytes are a record, and this is its text
 abbrev pub IsOutput : Listing → List ℕ → List ℕ → Type 0
 IsOutput listing bytes text =
-    (head : RecordHead) × ((frames : List Frame) × (IsRecord head frames bytes
-    × ((accounts : List Account) × (AreAccounts listing head frames accounts × (text ≡ entries 1 accounts ++ summary accounts)))))
+    (head : RecordHead) × ((frames : List Frame) × (IsRecord head frames bytes × IsWholeText listing head frames text))

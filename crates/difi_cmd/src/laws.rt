@@ -1,8 +1,9 @@
 ghost use Rattle.std.specs.Prelude.{◌≡◌, ℕ, List};
 ghost use Rattle.difi_texts.specs.declared.lines.Listing.{Listing};
-ghost use Rattle.difi_cmd.specs.Outcome.{IsVerdict};
+ghost use Rattle.replay_form.specs.RecordGrammar.{record_grammar};
+ghost use Rattle.record_run.specs.Outcome.{IsVerdict};
 ghost use Rattle.difi_cmd.specs.Text.{IsPart, IsOutput};
-ghost use Rattle.difi_cmd.specs.declared.status.Status.{Status};
+ghost use Rattle.record_run.specs.declared.status.Status.{Status};
 
 /// Laws that a proof can cite: bytes have one text for each listing, as far as they go and as a whole
 /// record.
@@ -19,5 +20,5 @@ pub fn bytes_have_one_text()
 #[inline]
 pub fn bytes_have_one_status()
     ensures { (most : ℕ) (bytes : List ℕ) (status other : Status)
-        → IsVerdict most bytes status → IsVerdict most bytes other → status ≡ other }
+        → IsVerdict record_grammar most bytes status → IsVerdict record_grammar most bytes other → status ≡ other }
 {}

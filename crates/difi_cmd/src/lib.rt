@@ -5,18 +5,15 @@
 mod judging;
 mod laws;
 mod list;
-mod reading;
 mod report;
 mod run;
-mod status;
 #[cfg(test)]
 mod tests;
-mod transfer;
 mod words;
 #[cfg(test)]
 mod words_tests;
 
 pub use crate::laws::{bytes_have_one_status, bytes_have_one_text};
 pub use crate::run::difi_run;
-pub use crate::status::Status;
 pub use crate::words::words_ask_for_one_line;
+pub use record_run::Status;

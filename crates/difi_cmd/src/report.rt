@@ -1,16 +1,17 @@
+ghost use Rattle.std.specs.Prelude.{◌≤◌};
+
 use crate::judging::{judge, packet_in};
-use crate::transfer::write_all;
-use difi_io::{Failed, Sink};
 use difi_packet::Packet;
 use difi_texts::{
     FrameWords, Judgement, Listing, TextBuffer, accepted, push_counts, push_line, push_under,
 };
-use replay_form::RecordHead;
+use record_run::Teller;
+use replay_form::{RecordHead, RecordReader};
 use std::alloc::Global;
+use vrt_words::NoMemory;
 
-/// What is told of a record's frames, on its way to a sink.
-///
-/// A write that fails is the last one. The frames behind it are judged and counted all the same.
+/// What `check` and `show` tell of a record's frames: a line for each, and a last one with their
+/// numbers.
 #[derive(Debug, Drop)]
 pub(crate) struct Report {
     /// What is told.
@@ -19,161 +20,118 @@ pub(crate) struct Report {
     pub frames: FrameWords,
     /// How many of them are packets.
     pub accepted: u64,
-    /// The text that is to be written next.
-    pub text: TextBuffer,
-    /// Whether a write failed.
-    pub failed: bool,
+    /// Whether the last line was told.
+    pub ended: bool,
+    ghost counted: { accepted ≤ frames },
 }
 
 impl Report {
-    ghost use Rattle.std.specs.Prelude.{◌≡◌, ℕ, ◌+◌, ◌-◌, ◌^◌, ◌<◌, ◌≤◌, ◌++◌, List, [], ◌∷◌, Option, length, true, false, count_by, OnOk, OnErr};
+    ghost use Rattle.std.specs.Prelude.{◌≡◌, ℕ, ◌+◌, ◌^◌, ◌<◌, ◌≤◌, length, false};
     ghost use Rattle.difi_packet.specs.Packet.{value_of};
-    ghost use Rattle.replay_form.specs.FrameFields.{Frame};
-    ghost use Rattle.replay_form.specs.declared.record_head.RecordHead.{RecordHead};
-    ghost use Rattle.difi_texts.specs.declared.lines.Judgement.{Judgement};
-    ghost use Rattle.difi_texts.specs.Lines.{Account, entry, entries, summary, is_accepted, is_packet};
+    ghost use Rattle.difi_texts.specs.Lines.{Account};
     ghost use Rattle.difi_texts.specs.Accounts.{account_of, turned_away};
     ghost use Rattle.difi_cmd.specs.Text.{IsAccount};
-    ghost use Rattle.difi_cmd.specs.Progress.{IsSent, IsReporting, IsFinished, IsNoted};
+    ghost use Rattle.difi_cmd.specs.Telling.{IsNoted};
 
     /// No frame so far.
-    pub fn new(listing: Listing, text: TextBuffer) -> Self
-        ensures { result ≡ record { listing = listing; frames = 0; accepted = 0; text = text; failed = false } }
+    pub fn new(listing: Listing) -> Self
+        ensures listing { result.listing ≡ listing }
+        ensures frames { result.frames ≡ 0 }
+        ensures accepted { result.accepted ≡ 0 }
+        ensures ended { result.ended ≡ false }
     {
         Report {
             listing,
             frames: FrameWords::none(),
             accepted: 0,
-            text,
-            failed: false,
-        }
-    }
-
-    /// Judges the next frame, counts it and puts what is told of it behind the others.
-    pub fn add<K: Sink>(&mut self, alloc: Global, head: &RecordHead, datagram: &[u8], sink: &mut K)
-        requires fits { self.old.frames + 1 < 2 ^ 64 }
-        requires counted { self.old.accepted ≤ self.old.frames }
-        requires room { length self.old.text < 65536 }
-        ensures frames { self.new.frames ≡ self.old.frames + 1 }
-        ensures counted { self.new.accepted ≤ self.new.frames }
-        ensures room { length self.new.text < 65536 }
-        ensures listing { self.new.listing ≡ self.old.listing }
-        ensures reports { (start : Option (List ℕ)) (before : ℕ) (frames : List Frame) (accounts : List Account) (frame : Frame) →
-            IsReporting start (K.held sink.old) before (K.faults sink.old) head.now self.old frames accounts →
-            frame.datagram ≡ datagram.now → (account : Account)
-            × IsReporting start (K.held sink.new) before (K.faults sink.new) head.now self.new
-            (frames ++ frame ∷ []) (accounts ++ account ∷ []) }
-    {
-        self.tell(alloc, head, datagram);
-        if self.text.is_full() {
-            self.send(sink);
+            ended: false,
         }
     }
 
     // Judges a frame, counts it and puts what is told of it behind the text.
-    fn tell(&mut self, alloc: Global, head: &RecordHead, datagram: &[u8])
-        requires fits { self.old.frames + 1 < 2 ^ 64 }
-        requires counted { self.old.accepted ≤ self.old.frames }
-        requires room { length self.old.text < 65536 }
-        ensures counted { self.new.accepted ≤ self.new.frames }
-        ensures noted { (account : Account) × IsAccount self.old.listing head.now datagram.now account
-            × IsNoted self.old self.new account }
+    fn tell(&mut self, alloc: Global, head: &RecordHead, datagram: &[u8], out: &mut TextBuffer)
+        requires fits { self.old.frames + 1 < 2 ^ 63 }
+        requires room { length out.old < 65536 }
+        ensures { (account : Account) × IsAccount self.old.listing head.now datagram.now account
+            × IsNoted self.old self.new out.old out.new account }
     {
         match self.listing {
-            Listing::Check => self.note(judge(head, datagram)),
-            Listing::Show => self.tell_all(alloc, head, datagram),
+            Listing::Check => self.note(judge(head, datagram), out),
+            Listing::Show => self.tell_all(alloc, head, datagram, out),
         }
     }
 
     // The same with what a packet holds.
     #[inline(never)]
-    fn tell_all(&mut self, alloc: Global, head: &RecordHead, datagram: &[u8])
-        requires fits { self.old.frames + 1 < 2 ^ 64 }
-        requires counted { self.old.accepted ≤ self.old.frames }
-        requires room { length self.old.text < 65536 }
-        ensures counted { self.new.accepted ≤ self.new.frames }
-        ensures noted { (account : Account) × IsAccount self.old.listing head.now datagram.now account
-            × IsNoted self.old self.new account }
+    fn tell_all(&mut self, alloc: Global, head: &RecordHead, datagram: &[u8], out: &mut TextBuffer)
+        requires fits { self.old.frames + 1 < 2 ^ 63 }
+        requires room { length out.old < 65536 }
+        ensures { (account : Account) × IsAccount self.old.listing head.now datagram.now account
+            × IsNoted self.old self.new out.old out.new account }
     {
         match packet_in(head, datagram) {
-            Ok(packet) => self.note_packet(alloc, &packet),
-            Err(judgement) => self.note(judgement),
+            Ok(packet) => self.note_packet(alloc, &packet, out),
+            Err(judgement) => self.note(judgement, out),
         }
     }
 
     // Counts a packet, and puts what is told of it behind the text.
-    fn note_packet(&mut self, alloc: Global, packet: &Packet<'_>)
-        requires fits { self.old.frames + 1 < 2 ^ 64 }
-        requires counted { self.old.accepted ≤ self.old.frames }
-        requires room { length self.old.text < 65536 }
-        ensures counted { self.new.accepted ≤ self.new.frames }
-        ensures noted { IsNoted self.old self.new (account_of self.old.listing (value_of packet.now)) }
+    fn note_packet(&mut self, alloc: Global, packet: &Packet<'_>, out: &mut TextBuffer)
+        requires fits { self.old.frames + 1 < 2 ^ 63 }
+        requires room { length out.old < 65536 }
+        ensures { IsNoted self.old self.new out.old out.new (account_of self.old.listing (value_of packet.now)) }
     {
-        self.note(accepted(packet));
-        push_under(alloc, &mut self.text, self.listing, packet);
+        self.note(accepted(packet), out);
+        push_under(alloc, out, self.listing, packet);
     }
 
     // Counts a frame, and puts its line behind the text.
     #[inline(always)]
-    fn note(&mut self, judgement: Judgement)
-        requires fits { self.old.frames + 1 < 2 ^ 64 }
-        requires counted { self.old.accepted ≤ self.old.frames }
-        requires room { length self.old.text < 65536 }
-        ensures counted { self.new.accepted ≤ self.new.frames }
-        ensures room { length self.new.text ≤ length self.old.text + 64 }
-        ensures noted { IsNoted self.old self.new (turned_away judgement) }
+    fn note(&mut self, judgement: Judgement, out: &mut TextBuffer)
+        requires fits { self.old.frames + 1 < 2 ^ 63 }
+        requires room { length out.old < 65536 }
+        ensures room { length out.new ≤ length out.old + 64 }
+        ensures noted { IsNoted self.old self.new out.old out.new (turned_away judgement) }
     {
         self.frames.step();
         if let Judgement::Accepted { .. } = judgement {
             self.accepted += 1;
         }
-        push_line(&mut self.text, &self.frames, judgement);
+        push_line(out, &self.frames, judgement);
+    }
+}
+
+impl Teller<RecordReader> for Report {
+    ghost use Rattle.difi_cmd.specs.Telling.{told_by};
+
+    ghost tells = { told_by };
+
+    fn wants_memory(&self) -> bool {
+        false
     }
 
-    // Writes the text that waits, where no write failed.
-    fn send<K: Sink>(&mut self, sink: &mut K)
-        ensures frames { self.new.frames ≡ self.old.frames }
-        ensures accepted { self.new.accepted ≡ self.old.accepted }
-        ensures listing { self.new.listing ≡ self.old.listing }
-        ensures text { self.new.text ≡ [] }
-        ensures sent { (start : Option (List ℕ)) (before : ℕ) (text : List ℕ) →
-            IsSent self.old.failed start (K.held sink.old) before (K.faults sink.old) self.old.text text →
-            IsSent self.new.failed start (K.held sink.new) before (K.faults sink.new) self.new.text text }
-    {
-        if !self.failed {
-            self.failed = write_all(sink, self.text.as_slice()).is_err();
-        }
-        self.text.clear();
+    fn begin(&mut self, _alloc: Global, _intake: &RecordReader) -> Result<(), NoMemory> {
+        Ok(())
     }
 
-    /// Writes the text that waits. `Err` where a write failed, now or before.
-    pub fn flush<K: Sink>(&mut self, sink: &mut K) -> Result<(), Failed>
-        ensures frames { self.new.frames ≡ self.old.frames }
-        ensures accepted { self.new.accepted ≡ self.old.accepted }
-        ensures listing { self.new.listing ≡ self.old.listing }
-        ensures text { self.new.text ≡ [] }
-        ensures all { OnOk result (self.new.failed ≡ false) }
-        ensures cut { OnErr result (self.new.failed ≡ true) }
-        ensures sent { (start : Option (List ℕ)) (before : ℕ) (text : List ℕ) →
-            IsSent self.old.failed start (K.held sink.old) before (K.faults sink.old) self.old.text text →
-            IsSent self.new.failed start (K.held sink.new) before (K.faults sink.new) self.new.text text }
-    {
-        self.send(sink);
-        if self.failed { Err(Failed) } else { Ok(()) }
+    #[inline(always)]
+    fn frame(&mut self, alloc: Global, intake: &RecordReader, out: &mut TextBuffer) {
+        let Some(head) = intake.head() else {
+            unreachable!()
+        };
+        let Some((_, _, datagram)) = intake.frame() else {
+            unreachable!()
+        };
+        self.tell(alloc, head, datagram, out);
     }
 
-    /// Writes the last line and all that waits. `Err` where a write failed.
-    pub fn finish<K: Sink>(mut self, sink: &mut K) -> Result<(), Failed>
-        requires counted { self.accepted ≤ self.frames }
-        requires room { length self.text < 65536 }
-        ensures { (start : Option (List ℕ)) (before : ℕ) (head : RecordHead) (frames : List Frame)
-            (accounts : List Account) →
-            IsReporting start (K.held sink.old) before (K.faults sink.old) head self frames accounts →
-            IsFinished result start (K.held sink.new) before (K.faults sink.new)
-            (entries 1 accounts ++ summary accounts) }
-    {
-        push_counts(&mut self.text, self.frames.number(), self.accepted);
-        self.send(sink);
-        if self.failed { Err(Failed) } else { Ok(()) }
+    fn end(&mut self, _alloc: Global, out: &mut TextBuffer) {
+        push_counts(out, self.frames.number(), self.accepted);
+        self.ended = true;
+    }
+
+    #[inline(always)]
+    fn next(&mut self, _alloc: Global, _out: &mut TextBuffer) -> bool {
+        false
     }
 }

@@ -2,12 +2,14 @@ ghost use Rattle.std.specs.Prelude.{◌≡◌, ◌≢◌, ◌⊎◌, ◌↔◌, 
 ghost use Rattle.difi_io.specs.Faults.{Rose};
 ghost use Rattle.difi_cmd.specs.declared.words.Line.{Line};
 ghost use Rattle.difi_cmd.specs.LineOfWords.{Asks};
-ghost use Rattle.difi_cmd.specs.Outcome.{Reads, TakesTooMany, TakesBad, WritesAll, WritesFront, IsVerdict};
+ghost use Rattle.replay_form.specs.RecordGrammar.{record_grammar};
+ghost use Rattle.record_run.specs.Outcome.{IsOutcome, IsVerdict};
+ghost use Rattle.difi_cmd.specs.Outcome.{behaviour_of};
 
 use crate::list::list;
-use crate::status::Status;
 use crate::words::{WordsFault, line_of};
 use difi_io::{Gate, Sink, Source};
+use record_run::Status;
 use std::alloc::Global;
 use std::thread::Threads;
 
@@ -32,24 +34,24 @@ pub fn difi_run<R: Threads + Sync, S: Source + Send, K: Sink + Send, G: Gate + S
     ensures untouched { result ≡ Status.Usage → (source.new ≡ source.old) × (sink.new ≡ sink.old) }
     ensures memory { result ≡ Status.Memory → (source.new ≡ source.old) × (sink.new ≡ sink.old) }
 
-    // The cause of each other status, with the bytes taken and what was written.
-    ensures read_fault { result ≡ Status.ReadFault → Rose (S.faults source.old) (S.faults source.new)
-        × (K.faults sink.new ≡ K.faults sink.old) × (line : Line) × Asks words.now line
-        × Reads line (S.left source.old) (S.left source.new) (K.held sink.old) (K.held sink.new) }
-    ensures too_long { result ≡ Status.TooLong → (line : Line) × Asks words.now line
-        × TakesTooMany line (S.left source.old) (S.left source.new) (K.held sink.old) (K.held sink.new) }
-    ensures bad_record { (offset : ℕ) → result ≡ Status.BadRecord offset → (line : Line) × Asks words.now line
-        × TakesBad line offset (S.left source.old) (S.left source.new) (K.held sink.old) (K.held sink.new) }
-    ensures write_fault { result ≡ Status.WriteFault → Rose (K.faults sink.old) (K.faults sink.new)
-        × (line : Line) × Asks words.now line
-        × WritesFront line (S.left source.old) (S.left source.new) (K.held sink.old) (K.held sink.new) }
-    ensures done { result ≡ Status.Done → (line : Line) × Asks words.now line
-        × WritesAll line (S.left source.old) (S.left source.new) (K.held sink.old) (K.held sink.new) }
+    // Every other status has its cause in what the line does, with the bytes taken and the text written.
+    ensures outcome { result ≢ Status.Usage → result ≢ Status.Memory → (line : Line) × Asks words.now line
+        × IsOutcome result (behaviour_of line)
+        (record {
+          left = S.left source.old;
+          left_now = S.left source.new;
+          held = K.held sink.old;
+          held_now = K.held sink.new;
+          reads = S.faults source.old;
+          reads_now = S.faults source.new;
+          writes = K.faults sink.old;
+          writes_now = K.faults sink.new;
+        }) }
 
     // Where no read and no write fails, the bytes decide, unless memory runs out.
     ensures complete { (line : Line) → Asks words.now line → ¬ Rose (S.faults source.old) (S.faults source.new) →
         ¬ Rose (K.faults sink.old) (K.faults sink.new) →
-        IfSome (S.left source.old) (λ bytes. (result ≡ Status.Memory) ⊎ IsVerdict line.max_bytes bytes result) }
+        IfSome (S.left source.old) (λ bytes. (result ≡ Status.Memory) ⊎ IsVerdict record_grammar line.max_bytes bytes result) }
 {
     match line_of(alloc, words) {
         Ok(line) => list(alloc, line, source, sink),

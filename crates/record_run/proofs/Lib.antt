@@ -3,3 +3,5 @@ pub mod Going
 pub mod Feeding
 pub mod Outcomes
 pub mod RecordReading
+pub mod Complete
+pub mod Retold

@@ -1,10 +1,10 @@
 -- What a run did with its source and its sink, and the status that bytes give.
-use Rattle.std.specs.Prelude.{◌≡◌, ℕ, ◌+◌, ◌<◌, ◌≤◌, ◌⊎◌, true, List, [], length, take, Option}
+use Rattle.std.specs.Prelude.{◌≡◌, ℕ, ◌+◌, ◌≤◌, ◌⊎◌, true, List, [], length, take, Option}
 use Rattle.std.specs.Io.KnownBytes.{Consumes, IsAtEnd, Appends}
 use Rattle.difi_io.specs.Faults.{Rose}
 use Rattle.record_run.specs.declared.status.Status.{Status}
 use Rattle.record_run.specs.declared.status.Status.TheVariants.{Done, Usage, ReadFault, WriteFault, Memory, BadRecord, TooLong}
-use Rattle.replay_form.specs.Grammar.{Grammar}
+use Rattle.replay_form.specs.Grammar.{Grammar, IsBad, IsLonger, IsWhole}
 use Rattle.record_run.specs.Tells.{Tells}
 
 -- what a line asks for: how many bytes are judged at most, what they are, and what is told of them
@@ -25,21 +25,6 @@ pub record Moves : Type 0 where
   pub writes_now : ℕ
 
 -- ---- the status that the bytes give where no read or write fails
-
--- Of the bytes the first `most` are judged. A field of these is wrong; or the bytes end inside the header or a frame
-abbrev pub IsBad : {H F : Type 0} → Grammar H F → ℕ → List ℕ → ℕ → Type 0
-IsBad grammar most bytes offset =
-    grammar.wrong (take most bytes) offset ⊎ ((length bytes ≤ most) × (grammar.inside bytes × (offset ≡ length bytes)))
-
--- or there are more
-pub record IsLonger {H F : Type 0} (grammar : Grammar H F) (most : ℕ) (bytes : List ℕ) : Type 0 where
-  pub more : most < length bytes
-  pub sound : grammar.sound (take most bytes)
-
--- or they are a header and frames
-pub record IsWhole {H F : Type 0} (grammar : Grammar H F) (most : ℕ) (bytes : List ℕ) : Type 0 where
-  pub within : length bytes ≤ most
-  pub whole : (head : H) × ((frames : List F) × grammar.whole head frames bytes)
 
 abbrev pub IsVerdict : {H F : Type 0} → Grammar H F → ℕ → List ℕ → Status → Type 0
 IsVerdict grammar most bytes Done = IsWhole grammar most bytes

@@ -1,9 +1,9 @@
-ghost use Rattle.std.specs.Prelude.{◌≡◌, ◌≢◌, ◌+◌, ◌<◌, ◌≤◌, ◌^◌, ◌⊎◌, ◌↔◌, ℕ, List, [], None, Some, Err, true, false, min, length, take, OnOk, OnErr, IfOk, IsTrue};
+ghost use Rattle.std.specs.Prelude.{◌≡◌, ◌≢◌, ◌+◌, ◌<◌, ◌≤◌, ◌^◌, ◌⊎◌, ◌↔◌, ℕ, List, [], None, Some, Err, true, false, min, length, take, OnOk, OnErr, IfOk, IfSome, IsTrue};
 ghost use Rattle.std.specs.Io.KnownBytes.{Consumes, IsAtEnd, Keeps};
-ghost use Rattle.difi_io.specs.Faults.{HasCause};
+ghost use Rattle.difi_io.specs.Faults.{HasCause, Rose};
 ghost use Rattle.replay_form.specs.Grammar.{IsFresh};
 ghost use Rattle.record_run.specs.Tells.{HasBegun};
-ghost use Rattle.record_run.specs.Outcome.{IsOutcome};
+ghost use Rattle.record_run.specs.Outcome.{IsOutcome, IsVerdict};
 ghost use Rattle.record_run.specs.Steps.{way_of, IsReady, HeadStays, IsTakenAs, IsEndedAs};
 
 use crate::intake::Intake;
@@ -46,6 +46,11 @@ pub fn run_record<I: Intake, T: Teller<I>, S: Source, K: Sink>(
           writes = K.faults sink.old;
           writes_now = K.faults sink.new;
         }) }
+    // Where no read and no write fails, the bytes decide, unless memory runs out.
+    ensures complete { ¬ Rose (S.faults source.old) (S.faults source.new) → ¬ Rose (K.faults sink.old) (K.faults sink.new) →
+        IfSome (S.left source.old) (λ bytes. (result ≡ Status.Memory) ⊎ IsVerdict I.grammar most bytes result) }
+
+    // Want of memory leaves the sink as it was, and the source too where the teller takes none.
     ensures memory { result ≡ Status.Memory → sink.new ≡ sink.old }
     ensures untouched { result ≡ Status.Memory → (T.tells teller.old).wants ≡ false → source.new ≡ source.old }
 {

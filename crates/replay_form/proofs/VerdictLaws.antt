@@ -11,6 +11,7 @@ use Rattle.replay_form.proofs.NumberLaws.{number_at-append}
 use Rattle.replay_form.proofs.PrefixLaws.{right-append, count-append, size-append, frame_good-append}
 use Rattle.replay_form.specs.Record.{AreFrames, last_stamp, first_stamp, IsCut, IsRecord, IsRecordWrongAt, EndsInside}
 use Rattle.replay_form.proofs.RecordLaws.{nothing_open}
+use Rattle.replay_form.specs.Standing.{HasNoHead, HasFrames, IsLeftOver}
 use Rattle.replay_form.specs.declared.record_head.RecordHead.{RecordHead}
 
 -- a whole frame in front is not open, and nothing in it is wrong
@@ -184,3 +185,18 @@ one_place fs gs bytes a b (inr v) (inr w) =
     (subst (λ hs. IsFrameWrongAt (last_stamp first_stamp hs) w.rest w.place) (sym same.0) w.frame) in
     let place = one_wrong (last_stamp first_stamp fs) v.rest v.place w.place v.frame frame in
     omega (arith, v.told, w.told, ap length same.1)
+
+-- what stands whole in bytes, as far as they go, is one header and one list of frames, or no header
+left_rests : (frames : List Frame) (rest : List ℕ) → IsLeftOver frames rest → Rests (last_stamp first_stamp frames) rest
+left_rests frames rest (inl part) = part_rests (last_stamp first_stamp frames) rest part
+left_rests frames rest (inr wrong) = wrong_rests (last_stamp first_stamp frames) rest wrong.0 wrong.1
+
+pub one_standing : (h i : RecordHead) (fs gs : List Frame) (bytes : List ℕ) → HasFrames h fs bytes → HasFrames i gs bytes → (h ≡ i) × (fs ≡ gs)
+one_standing h i fs gs bytes p q = (
+  cut_one_head h i fs gs p.rest q.rest bytes p.cut q.cut,
+  (cut_one h i fs gs p.rest q.rest bytes p.cut q.cut (left_rests fs p.rest p.behind) (left_rests gs q.rest q.behind)).0,
+)
+
+pub not_headless : (h : RecordHead) (fs : List Frame) (bytes : List ℕ) → HasFrames h fs bytes → ¬ HasNoHead bytes
+not_headless h fs bytes p (inl part) = cut_not_part h fs p.rest bytes p.cut part
+not_headless h fs bytes p (inr wrong) = cut_not_wrong h fs p.rest bytes wrong.0 p.cut wrong.1

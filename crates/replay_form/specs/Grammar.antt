@@ -1,5 +1,5 @@
 -- What an intake reads: the bytes that make a header and frames, and those that are wrong at a place.
-use Rattle.std.specs.Prelude.{◌≡◌, ℕ, ◌+◌, ◌≤◌, List, [], ◌∷◌, ◌++◌, length, take, Option, Some, None}
+use Rattle.std.specs.Prelude.{◌<◌, ◌⊎◌, ◌≡◌, ℕ, ◌+◌, ◌≤◌, List, [], ◌∷◌, ◌++◌, length, take, Option, Some, None}
 use Rattle.replay_form.specs.declared.event.Event.{Event}
 use Rattle.replay_form.specs.declared.event.Event.TheVariants as events
 
@@ -89,3 +89,20 @@ pub record IsLawful {H F : Type 0} (grammar : Grammar H F) : Type 0 where
 pub record AreReads {H F : Type 0} (grammar : Grammar H F) (reads : Reads H F) : Type 0 where
   pub sound : (taken : List ℕ) (frames : List F) → reads.stands taken frames → grammar.sound taken
   pub has : (taken : List ℕ) (frames : List F) → reads.stands taken frames → HasWhole grammar reads.head frames taken
+
+-- ---- what bytes are of which the first ones alone are judged
+
+-- Of the bytes the first `most` are judged. A field of these is wrong; or the bytes end inside the header or a frame
+abbrev pub IsBad : {H F : Type 0} → Grammar H F → ℕ → List ℕ → ℕ → Type 0
+IsBad grammar most bytes offset =
+    grammar.wrong (take most bytes) offset ⊎ ((length bytes ≤ most) × (grammar.inside bytes × (offset ≡ length bytes)))
+
+-- or there are more
+pub record IsLonger {H F : Type 0} (grammar : Grammar H F) (most : ℕ) (bytes : List ℕ) : Type 0 where
+  pub more : most < length bytes
+  pub sound : grammar.sound (take most bytes)
+
+-- or they are a header and frames
+pub record IsWhole {H F : Type 0} (grammar : Grammar H F) (most : ℕ) (bytes : List ℕ) : Type 0 where
+  pub within : length bytes ≤ most
+  pub whole : (head : H) × ((frames : List F) × grammar.whole head frames bytes)

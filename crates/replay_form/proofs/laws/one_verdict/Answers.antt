@@ -20,3 +20,9 @@ returns-clause-record_not_inside c = laws.record_not_inside
 
 pub returns-clause-wrong_not_inside : goal.returns-clause-wrong_not_inside
 returns-clause-wrong_not_inside c = laws.wrong_not_inside
+
+pub returns-clause-one_standing : goal.returns-clause-one_standing
+returns-clause-one_standing c = laws.one_standing
+
+pub returns-clause-not_headless : goal.returns-clause-not_headless
+returns-clause-not_headless c = laws.not_headless
