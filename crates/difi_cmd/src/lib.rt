@@ -16,4 +16,4 @@ mod words_tests;
 pub use crate::laws::{bytes_have_one_status, bytes_have_one_text};
 pub use crate::run::difi_run;
 pub use crate::words::words_ask_for_one_line;
-pub use record_run::Status;
+pub use record_run::{Options, Status};

@@ -3,6 +3,7 @@
 #![tactic(auto)]
 
 mod intake;
+mod options;
 mod outgoing;
 mod reading;
 mod record;
@@ -12,6 +13,7 @@ mod teller;
 mod transfer;
 
 pub use crate::intake::Intake;
+pub use crate::options::Options;
 pub use crate::record::ReceivedFrame;
 pub use crate::run::run_record;
 pub use crate::status::Status;
