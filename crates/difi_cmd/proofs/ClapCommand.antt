@@ -1,30 +1,24 @@
 -- A command of `clap` with options of one value each: where a parse fails, and what it gives.
-use Rattle.std.proofs.Common.{◌≡◌, ◌&&◌, ◌∙◌, ℕ, Bool, true, false, not, List, [], ◌∷◌, drop, Option, None, map, fold, refl, sym, ap, subst, inl, inr, codes, All}
+use Rattle.std.proofs.Common.{◌≡◌, ◌&&◌, ◌∙◌, ℕ, Bool, true, false, not, List, [], ◌∷◌, drop, Option, None, map, fold, refl, sym, ap, subst, inl, inr, All}
 use Rattle.std.specs.List.{list_all, list_any}
 use Rattle.clap.specs.declared.error.Error.{Error}
 use Rattle.clap.specs.declared.error.kind.ErrorKind.TheVariants.{OutOfMemory}
-use Rattle.clap.specs.Words.{App, Row, Rule, fault_of, first_of, is_simple, is_simple_and_free, kind_of, matches_of, new_app}
+use Rattle.clap.specs.Words.{Row, Rule, fault_of, first_of, is_simple, is_simple_and_free, kind_of, matches_of}
 use Rattle.clap.specs.Kinds.{HasKind, Kinds, or_else}
-use Rattle.clap.specs.Simple.{Shape, built, filled_from, new_shape}
+use Rattle.clap.specs.Simple.{Shape, built, filled_from}
 use Rattle.clap.specs.Faults.{check_fault, default_fault, defaults_fault, level_fault, settle_fault, walk_fault}
 use Rattle.clap.specs.Takes.{is_given}
 use Rattle.clap.specs.Walk.{finished, has_row, is_early_multiple, nothing_held, settled, walk_from, walked, with_default}
 use Rattle.clap.proofs.FaultLemmas.{leaf_fault}
-use Rattle.difi_cmd.specs.LineOfWords.{Text, is_stray, value_list}
-use Rattle.difi_cmd.proofs.ClapOptions.{built_rule, built_shape, held_for, none_first, option_rule}
+use Rattle.difi_cmd.specs.LineOfWords.{GiveValues, Text, is_stray, value_list}
+use Rattle.difi_cmd.specs.CommandOfOptions.{app, option_rule}
+use Rattle.difi_cmd.proofs.ClapOptions.{built_rule, built_shape, held_for, none_first}
 use Rattle.difi_cmd.proofs.ClapTurns.{IsName}
 use Rattle.difi_cmd.proofs.ClapWalk.{Passes, complete, sound}
 use Rattle.difi_cmd.proofs.ClapSpelling.{none_stray}
-use Rattle.difi_cmd.proofs.ClapItems.{GiveValues, is_once, value_is}
+use Rattle.difi_cmd.proofs.ClapItems.{is_once, value_is}
 
 -- ---- the command, as it is declared and as it is built
-
--- without options
-abbrev pub bare : App
-bare = record (new_app (codes "difi")) { top = record (new_shape (codes "difi")) { disable_help_flag = true } }
-
-abbrev pub app : List Text → App
-app names = record bare { top = record bare.top { rules = map option_rule names } }
 
 filled_is : (names : List Text) → filled_from 1 (map option_rule names) ≡ map built_rule names
 filled_is [] = refl

@@ -7,15 +7,9 @@ use Rattle.std.proofs.lemmas.List.Folds.{list_any-append}
 use Rattle.std.proofs.lemmas.Slice.Eq.{bytes_eq-Decides}
 use Rattle.clap.specs.Words.{Row, first_of}
 use Rattle.clap.specs.Walk.{has_row}
-use Rattle.difi_cmd.specs.LineOfWords.{AreItems, Item, IsItem, Text, apart, joined, option_of, value_list, value_of, values_of}
+use Rattle.difi_cmd.specs.LineOfWords.{Item, IsItem, Text, apart, joined, option_of, value_list, value_of, values_of}
 use Rattle.difi_cmd.proofs.ClapOptions.{Once, after, row_for, rows_for, same_text}
 use Rattle.difi_cmd.proofs.ClapWalk.{once_before}
-
--- the words are items of these options, and give each its value or none
-pub record GiveValues (names : List Text) (words : List Text) (value : Text → Option Text) : Type 0 where
-  pub items : List Item
-  pub are_items : AreItems names words items
-  pub values : (name : Text) → Contains names name → values_of name items ≡ value_list (value name)
 
 -- the rows stand in the order of the items
 pub rows_in_order : (items before : List Item) → rows_for (after items before) ≡ rows_for before ++ map row_for items

@@ -3,22 +3,19 @@ use Rattle.std.proofs.Common.{◌≡◌, ◌||◌, ◌++◌, ℕ, Bool, true, fa
 use Rattle.std.specs.Str.{bytes_eq}
 use Rattle.std.proofs.lemmas.List.{append-nil}
 use Rattle.std.proofs.lemmas.Slice.Eq.{bytes_eq-Decides}
-use Rattle.clap.specs.Words.{Row, Rule, new_rule}
+use Rattle.clap.specs.Words.{Row, Rule}
 use Rattle.clap.specs.Kinds.{Kinds, or_else}
 use Rattle.clap.specs.Simple.{Shape, new_shape}
 use Rattle.clap.specs.Faults.{settle_fault, use_fault}
 use Rattle.clap.specs.Walk.{Held, arg_by_id, arg_by_index, arg_by_long, at_row, has_row, reading_by, settled, used}
-use Rattle.clap.specs.declared.builder.action.ArgAction.TheVariants.{Set}
 use Rattle.clap.specs.declared.builder.value_parser.ValueParser.TheVariants as vp
 use Rattle.clap.specs.declared.parser.matches.ValueSource.TheVariants.{CommandLine}
 use Rattle.difi_cmd.specs.LineOfWords.{Item, Text, option_of, value_of}
+use Rattle.difi_cmd.specs.CommandOfOptions.{option_rule}
 
 -- ---- the command
 
--- an option with one value, as it is declared, and as it is built
-abbrev pub option_rule : Text → Rule
-option_rule name = record (new_rule name) { long = Some name; action = Some Set }
-
+-- an option with one value, as it is built
 abbrev pub built_rule : Text → Rule
 built_rule name = record (option_rule name) {
   range = Some (record { start_inclusive = 1; end_inclusive = 1 });

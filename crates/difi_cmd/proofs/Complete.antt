@@ -10,7 +10,7 @@ use Rattle.replay_form.specs.Record.{IsRecordWrongAt, EndsInside}
 use Rattle.replay_form.proofs.RecordLaws.{record_wrong-append}
 use Rattle.difi_cmd.specs.declared.status.Status.{Status}
 use Rattle.difi_cmd.specs.declared.status.Status.TheVariants.{Done, Usage, ReadFault, WriteFault, Memory, BadRecord, TooLong}
-use Rattle.difi_cmd.specs.declared.words.Line.{Line}
+use Rattle.difi_cmd.specs.declared.words.ListOptions.{ListOptions}
 use Rattle.difi_cmd.specs.Outcome.{IsBadSoFar, IsVerdict, IsOutcome}
 use Rattle.replay_form.specs.Verdict.{HasNoFault, HasFaultAt, IsBad, IsLonger, IsWhole}
 
@@ -60,7 +60,7 @@ longer most bytes taken left consumed l =
       sound = subst HasNoFault (sym same) l.sound;
     }
 
-pub complete : (status : Status) (line : Line) (read read' write write' : ℕ) (left left' held held' : Option (List ℕ))
+pub complete : (status : Status) (line : ListOptions) (read read' write write' : ℕ) (left left' held held' : Option (List ℕ))
     → (¬ (status ≡ Memory) → IsOutcome status line read read' write write' left left' held held') → ¬ Rose read read' → ¬ Rose write write'
     → IfSome left (λ bytes. (status ≡ Memory) ⊎ IsVerdict line.max_bytes bytes status)
 complete status line read read' write write' None left' held held' o no_read no_write = tt

@@ -9,7 +9,7 @@ use Rattle.std.proofs.lemmas.Bool.{cases_order}
 use Rattle.replay_form.specs.Reading.{Reading, IsFresh}
 use Rattle.replay_form.proofs.ReadingLaws.{fresh_stands}
 use Rattle.difi_texts.specs.declared.lines.Listing.{Listing}
-use Rattle.difi_cmd.specs.declared.words.Line.{Line}
+use Rattle.difi_cmd.specs.declared.words.ListOptions.{ListOptions}
 use Rattle.difi_cmd.specs.declared.report.Report.{Report}
 use Rattle.difi_cmd.specs.declared.status.Status.{Status}
 use Rattle.difi_cmd.specs.declared.status.Status.TheVariants.{Done, Usage, ReadFault, WriteFault, Memory, BadRecord, TooLong}
@@ -23,7 +23,7 @@ use Rattle.difi_cmd.proofs.Texts.{sent_whole}
 use Rattle.difi_cmd.proofs.Feeding.{place_of, no_fault, part_so_far}
 
 -- these bytes were read and told of, and so many more may be judged
-pub record IsAtRead (line : Line) (reader : Reading) (report : Report) (more : ℕ) (left left' held held' : Option (List ℕ)) (write write' : ℕ) : Type 0 where
+pub record IsAtRead (line : ListOptions) (reader : Reading) (report : Report) (more : ℕ) (left left' held held' : Option (List ℕ)) (write write' : ℕ) : Type 0 where
   pub taken : List ℕ
   pub consumed : Consumes left left' taken
   pub room : length taken + more ≡ line.max_bytes
@@ -37,7 +37,7 @@ pub record IsAtRead (line : Line) (reader : Reading) (report : Report) (more : �
   pub along : IsAlong held held' write write' reader report taken
 
 -- nothing was read
-pub begins : (line : Line) (reader : Reading) (report : Report) (left held : Option (List ℕ)) (write : ℕ) → line.max_bytes ≤ 2 ^ 62 → IsFresh reader
+pub begins : (line : ListOptions) (reader : Reading) (report : Report) (left held : Option (List ℕ)) (write : ℕ) → line.max_bytes ≤ 2 ^ 62 → IsFresh reader
     → report ≡ record { listing = line.listing; frames = 0; accepted = 0; text = []; failed = false } → IsAtRead line reader report line.max_bytes left left held held write write
 begins line reader report left held write most fresh begun = rw begun (record {
   taken = [];
@@ -79,12 +79,12 @@ sent_kept : (failed : Bool) (start held : Option (List ℕ)) (before now : ℕ) 
 sent_kept false start held before now waiting text e sent = sent.1.1.1
 sent_kept true start held before now waiting text e sent = cc
 
-pub writes_kept : (line : Line) (reader : Reading) (report : Report) (more : ℕ) (left left' held held' : Option (List ℕ)) (write write' : ℕ)
+pub writes_kept : (line : ListOptions) (reader : Reading) (report : Report) (more : ℕ) (left left' held held' : Option (List ℕ)) (write write' : ℕ)
     → IsAtRead line reader report more left left' held held' write write' → write' ≡ write
 writes_kept line reader report more left left' held held' write write' at =
     let a = at.along in sent_kept report.failed held held' write write' report.text (entries 1 a.1.0) at.written a.1.1.1.sent
 
-pub read_stopped : (line : Line) (reader : Reading) (report : Report) (more : ℕ) (left left' left'' held held' : Option (List ℕ)) (write write' : ℕ)
+pub read_stopped : (line : ListOptions) (reader : Reading) (report : Report) (more : ℕ) (left left' left'' held held' : Option (List ℕ)) (write write' : ℕ)
     → IsAtRead line reader report more left left' held held' write write' → Keeps left' left'' → Reads line left left'' held held'
 read_stopped line reader report more left left' left'' held held' write write' at keeps =
     let a = at.along in record {
@@ -98,7 +98,7 @@ read_stopped line reader report more left left' left'' held held' write write' a
     }
 
 -- the bytes that were just read, of which the first ones may be judged
-module _ (line : Line) (reader : Reading) (report : Report) (more : ℕ) (left left' left'' held held' held'' : Option (List ℕ)) (write write' write'' : ℕ)
+module _ (line : ListOptions) (reader : Reading) (report : Report) (more : ℕ) (left left' left'' held held' held'' : Option (List ℕ)) (write write' write'' : ℕ)
     (at : IsAtRead line reader report more left left' held held' write write') (piece : List ℕ) (count : ℕ) (read : Consumes left' left'' (take count piece)) (few : count ≤ more + 1) where
   all_taken : Consumes left left'' (at.taken ++ take count piece)
   all_taken = Consumes-trans left left' left'' at.taken (take count piece) at.consumed read

@@ -4,3 +4,4 @@ pub mod Progress
 pub mod LineOfWords
 pub mod Outcome
 pub mod Steps
+pub mod CommandOfOptions

@@ -1,12 +1,12 @@
 -- What a call did with its source and its sink, and the status that bytes give.
-use Rattle.std.specs.Prelude.{◌≡◌, ℕ, ◌+◌, ◌<◌, ◌≤◌, ◌⊎◌, List, length, take, Option}
+use Rattle.std.specs.Prelude.{◌≡◌, ℕ, ◌+◌, ◌≤◌, ◌⊎◌, List, length, take, Option}
 use Rattle.std.specs.Io.KnownBytes.{Consumes, IsAtEnd, Appends}
 use Rattle.difi_io.specs.Faults.{Rose}
 use Rattle.replay_form.specs.Record.{EndsInside}
 use Rattle.replay_form.specs.Verdict.{HasNoFault, HasFaultAt, IsBad, IsLonger, IsWhole}
 use Rattle.difi_cmd.specs.declared.status.Status.{Status}
 use Rattle.difi_cmd.specs.declared.status.Status.TheVariants.{Done, Usage, ReadFault, WriteFault, Memory, BadRecord, TooLong}
-use Rattle.difi_cmd.specs.declared.words.Line.{Line}
+use Rattle.difi_cmd.specs.declared.words.ListOptions.{ListOptions}
 use Rattle.difi_cmd.specs.Text.{IsPart, IsOutput}
 
 -- the status that the bytes give where no read or write fails
@@ -21,7 +21,7 @@ IsVerdict most bytes Memory = ⊥
 
 -- A line was run between what the source had left and has left, and what the sink held and holds; at most one byte more was taken
 -- than may be judged. A read failed behind bytes in which nothing is wrong, and the text of their frames was written
-pub record Reads (line : Line) (left left' held held' : Option (List ℕ)) : Type 0 where
+pub record Reads (line : ListOptions) (left left' held held' : Option (List ℕ)) : Type 0 where
   pub bytes : List ℕ
   pub taken : Consumes left left' bytes
   pub within : length bytes ≤ line.max_bytes
@@ -31,7 +31,7 @@ pub record Reads (line : Line) (left left' held held' : Option (List ℕ)) : Typ
   pub written : Appends held held' text
 
 -- or the bytes are too many; the text is that of the first ones
-pub record TakesTooMany (line : Line) (left left' held held' : Option (List ℕ)) : Type 0 where
+pub record TakesTooMany (line : ListOptions) (left left' held held' : Option (List ℕ)) : Type 0 where
   pub bytes : List ℕ
   pub taken : Consumes left left' bytes
   pub few : length bytes ≤ line.max_bytes + 1
@@ -45,7 +45,7 @@ abbrev pub IsBadSoFar : ℕ → List ℕ → ℕ → Option (List ℕ) → Type 
 IsBadSoFar most bytes offset left' =
     HasFaultAt (take most bytes) offset ⊎ ((length bytes ≤ most) × (IsAtEnd left' × (EndsInside bytes × (offset ≡ length bytes))))
 
-pub record TakesBad (line : Line) (offset : ℕ) (left left' held held' : Option (List ℕ)) : Type 0 where
+pub record TakesBad (line : ListOptions) (offset : ℕ) (left left' held held' : Option (List ℕ)) : Type 0 where
   pub bytes : List ℕ
   pub taken : Consumes left left' bytes
   pub few : length bytes ≤ line.max_bytes + 1
@@ -55,7 +55,7 @@ pub record TakesBad (line : Line) (offset : ℕ) (left left' held held' : Option
   pub written : Appends held held' text
 
 -- or the source told its end, the bytes are a record, and its whole text was written
-pub record WritesAll (line : Line) (left left' held held' : Option (List ℕ)) : Type 0 where
+pub record WritesAll (line : ListOptions) (left left' held held' : Option (List ℕ)) : Type 0 where
   pub bytes : List ℕ
   pub taken : Consumes left left' bytes
   pub at_end : IsAtEnd left'
@@ -65,11 +65,11 @@ pub record WritesAll (line : Line) (left left' held held' : Option (List ℕ)) :
   pub written : Appends held held' text
 
 -- or a write failed, behind a front of the text of the bytes taken, or of the whole text where the source told its end
-abbrev pub IsTextSoFar : Line → List ℕ → List ℕ → Option (List ℕ) → Type 0
+abbrev pub IsTextSoFar : ListOptions → List ℕ → List ℕ → Option (List ℕ) → Type 0
 IsTextSoFar line bytes text left' =
     IsPart line.listing (take line.max_bytes bytes) text ⊎ ((length bytes ≤ line.max_bytes) × (IsAtEnd left' × IsOutput line.listing bytes text))
 
-pub record WritesFront (line : Line) (left left' held held' : Option (List ℕ)) : Type 0 where
+pub record WritesFront (line : ListOptions) (left left' held held' : Option (List ℕ)) : Type 0 where
   pub bytes : List ℕ
   pub taken : Consumes left left' bytes
   pub few : length bytes ≤ line.max_bytes + 1
@@ -79,7 +79,7 @@ pub record WritesFront (line : Line) (left left' held held' : Option (List ℕ))
   pub written : Appends held held' (take number text)
 
 -- one line a status; where a read failed, no write did
-abbrev pub IsOutcome : Status → Line → ℕ → ℕ → ℕ → ℕ → Option (List ℕ) → Option (List ℕ) → Option (List ℕ) → Option (List ℕ) → Type 0
+abbrev pub IsOutcome : Status → ListOptions → ℕ → ℕ → ℕ → ℕ → Option (List ℕ) → Option (List ℕ) → Option (List ℕ) → Option (List ℕ) → Type 0
 IsOutcome ReadFault line read read' write write' left left' held held' =
     Rose read read' × ((write' ≡ write) × Reads line left left' held held')
 IsOutcome TooLong line read read' write write' left left' held held' = TakesTooMany line left left' held held'

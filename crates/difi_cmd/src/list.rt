@@ -11,7 +11,7 @@ ghost use Rattle.difi_cmd.specs.Steps.{IsEnded};
 use crate::reading::take;
 use crate::report::Report;
 use crate::status::Status;
-use crate::words::Line;
+use crate::words::ListOptions;
 use difi_io::{Failed, Sink, Source};
 use difi_texts::TextBuffer;
 use replay_form::RecordReader;
@@ -24,7 +24,7 @@ const PIECE: usize = 1 << 16;
 /// whole, and at the end a last line with their numbers.
 pub(crate) fn list<S: Source, K: Sink>(
     alloc: Global,
-    line: Line,
+    line: ListOptions,
     source: &mut S,
     sink: &mut K,
 ) -> Status
@@ -58,7 +58,7 @@ pub(crate) fn list<S: Source, K: Sink>(
 // The same with a reader and a report that have begun with nothing.
 fn read_record<S: Source, K: Sink>(
     alloc: Global,
-    line: Line,
+    line: ListOptions,
     mut reader: RecordReader,
     mut report: Report,
     source: &mut S,

@@ -1,12 +1,15 @@
 ghost use Rattle.std.specs.Prelude.{◌≡◌, ◌≢◌, ◌⊎◌, ◌↔◌, ℕ, IfSome};
 ghost use Rattle.difi_io.specs.Faults.{Rose};
 ghost use Rattle.difi_cmd.specs.declared.words.Line.{Line};
+ghost use Rattle.difi_cmd.specs.declared.words.Line.TheVariants as lines;
+ghost use Rattle.difi_cmd.specs.declared.words.ListOptions.{ListOptions};
 ghost use Rattle.difi_cmd.specs.LineOfWords.{Asks};
 ghost use Rattle.difi_cmd.specs.Outcome.{Reads, TakesTooMany, TakesBad, WritesAll, WritesFront, IsVerdict};
 
 use crate::list::list;
+use crate::options::WordsFault;
 use crate::status::Status;
-use crate::words::{WordsFault, line_of};
+use crate::words::{Line, line_of};
 use difi_io::{Gate, Sink, Source};
 use std::alloc::Global;
 use std::thread::Threads;
@@ -34,26 +37,29 @@ pub fn difi_run<R: Threads + Sync, S: Source + Send, K: Sink + Send, G: Gate + S
 
     // The cause of each other status, with the bytes taken and what was written.
     ensures read_fault { result ≡ Status.ReadFault → Rose (S.faults source.old) (S.faults source.new)
-        × (K.faults sink.new ≡ K.faults sink.old) × (line : Line) × Asks words.now line
-        × Reads line (S.left source.old) (S.left source.new) (K.held sink.old) (K.held sink.new) }
-    ensures too_long { result ≡ Status.TooLong → (line : Line) × Asks words.now line
-        × TakesTooMany line (S.left source.old) (S.left source.new) (K.held sink.old) (K.held sink.new) }
-    ensures bad_record { (offset : ℕ) → result ≡ Status.BadRecord offset → (line : Line) × Asks words.now line
-        × TakesBad line offset (S.left source.old) (S.left source.new) (K.held sink.old) (K.held sink.new) }
+        × (K.faults sink.new ≡ K.faults sink.old) × (options : ListOptions) × Asks words.now (lines.List options)
+        × Reads options (S.left source.old) (S.left source.new) (K.held sink.old) (K.held sink.new) }
+    ensures too_long { result ≡ Status.TooLong → (options : ListOptions) × Asks words.now (lines.List options)
+        × TakesTooMany options (S.left source.old) (S.left source.new) (K.held sink.old) (K.held sink.new) }
+    ensures bad_record { (offset : ℕ) → result ≡ Status.BadRecord offset → (options : ListOptions) × Asks words.now (lines.List options)
+        × TakesBad options offset (S.left source.old) (S.left source.new) (K.held sink.old) (K.held sink.new) }
     ensures write_fault { result ≡ Status.WriteFault → Rose (K.faults sink.old) (K.faults sink.new)
-        × (line : Line) × Asks words.now line
-        × WritesFront line (S.left source.old) (S.left source.new) (K.held sink.old) (K.held sink.new) }
-    ensures done { result ≡ Status.Done → (line : Line) × Asks words.now line
-        × WritesAll line (S.left source.old) (S.left source.new) (K.held sink.old) (K.held sink.new) }
+        × (options : ListOptions) × Asks words.now (lines.List options)
+        × WritesFront options (S.left source.old) (S.left source.new) (K.held sink.old) (K.held sink.new) }
+    ensures done { result ≡ Status.Done → (options : ListOptions) × Asks words.now (lines.List options)
+        × WritesAll options (S.left source.old) (S.left source.new) (K.held sink.old) (K.held sink.new) }
 
     // Where no read and no write fails, the bytes decide, unless memory runs out.
-    ensures complete { (line : Line) → Asks words.now line → ¬ Rose (S.faults source.old) (S.faults source.new) →
+    ensures complete { (options : ListOptions) → Asks words.now (lines.List options) → ¬ Rose (S.faults source.old) (S.faults source.new) →
         ¬ Rose (K.faults sink.old) (K.faults sink.new) →
-        IfSome (S.left source.old) (λ bytes. (result ≡ Status.Memory) ⊎ IsVerdict line.max_bytes bytes result) }
+        IfSome (S.left source.old) (λ bytes. (result ≡ Status.Memory) ⊎ IsVerdict options.max_bytes bytes result) }
 {
-    match line_of(alloc, words) {
-        Ok(line) => list(alloc, line, source, sink),
-        Err(WordsFault::Usage) => Status::Usage,
-        Err(WordsFault::Memory) => Status::Memory,
+    let line = match line_of(alloc, words) {
+        Ok(line) => line,
+        Err(WordsFault::Usage) => return Status::Usage,
+        Err(WordsFault::Memory) => return Status::Memory,
+    };
+    match line {
+        Line::List(options) => list(alloc, options, source, sink),
     }
 }
