@@ -1,22 +1,22 @@
 -- Words ask for one line at most, and none of its words is `--`.
 use Rattle.std.proofs.Common.{◌≡◌, ◌≢◌, ◌∙◌, ℕ, true, false, List, [], ◌∷◌, drop, map, Option, Some, None, String, codes, string_bytes, refl, sym, ap, ap₂, subst, All}
-use Rattle.std.specs.List.{list_all, list_any}
+use Rattle.std.specs.List.{list_any}
 use Rattle.std.proofs.lemmas.List.Elements.{All-cons, All-nil}
 use Rattle.difi_texts.specs.declared.lines.Listing.TheVariants.{Check, Show}
 use Rattle.difi_cmd.specs.declared.words.CommandName.{CommandName}
 use Rattle.difi_cmd.specs.declared.words.CommandName.TheVariants as names
 use Rattle.difi_cmd.specs.declared.words.Line.{Line}
 use Rattle.difi_cmd.specs.declared.words.Line.TheVariants as lines
-use Rattle.difi_cmd.specs.LineOfWords.{Asks, GiveNumbers, IsFirst, NamesCommand, OptionRow, Text, command_of, is_row, is_stray, numbers_of, row_of}
+use Rattle.difi_cmd.specs.LineOfWords.{Asks, GiveNumbers, IsFirst, NamesCommand, OptionRow, Text, command_of, are_rows, is_stray, numbers_of, row_of}
 use Rattle.difi_cmd.proofs.ClapOptions.{neither_first, neither_second}
 use Rattle.difi_cmd.proofs.Numbers.{no_stray, one_numbers}
 
 -- ---- what is shown of each command of the table
 
 -- its options can be read
-pub are_rows : (command : CommandName) → list_all is_row (row_of command).options ≡ true
-are_rows (names.List Check) = refl
-are_rows (names.List Show) = refl
+pub have_rows : (command : CommandName) → are_rows (row_of command).options ≡ true
+have_rows (names.List Check) = refl
+have_rows (names.List Show) = refl
 
 -- its word is that of no other, and is not `--`
 one_word : (command other : CommandName) → (row_of command).word ≡ (row_of other).word → command ≡ other
@@ -62,7 +62,7 @@ pub asked_numbers : {A : Type 0} (words : List (String A)) (command : CommandNam
     → rows ≡ (row_of command).options → GiveNumbers rows (drop 1 (map string_bytes words)) numbers → Asks words line → (command_of line ≡ command) × (numbers_of line ≡ numbers)
 asked_numbers words command rows numbers line named is given asks =
     let own = asked_behind words command rows line named is asks in
-    (own.0, one_numbers rows _ (numbers_of line) numbers (ap (list_all is_row) is ∙ are_rows command) own.1 given)
+    (own.0, one_numbers rows _ (numbers_of line) numbers (ap are_rows is ∙ have_rows command) own.1 given)
 
 pub one_line : {A : Type 0} (words : List (String A)) (line other : Line) → Asks words line → Asks words other → line ≡ other
 one_line words line other asks also =
@@ -81,4 +81,4 @@ all_words (word ∷ words) command named h = All-cons (λ text. text ≢ codes "
 pub no_dashes : {A : Type 0} (words : List (String A)) (line : Line) → Asks words line → All (λ word. word ≢ codes "--") (map string_bytes words)
 no_dashes words line asks =
     let texts = map string_bytes words in
-    all_words texts (command_of line) asks.named (no_stray (row_of (command_of line)).options (drop 1 texts) (numbers_of line) (are_rows (command_of line)) asks.behind)
+    all_words texts (command_of line) asks.named (no_stray (row_of (command_of line)).options (drop 1 texts) (numbers_of line) (have_rows (command_of line)) asks.behind)

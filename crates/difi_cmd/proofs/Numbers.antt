@@ -7,9 +7,8 @@ use Rattle.clap.proofs.CutLemmas.{Lacks}
 use Rattle.difi_cmd.specs.declared.options.LeftOut.{LeftOut}
 use Rattle.difi_cmd.specs.declared.options.LeftOut.TheVariants.{Default, Refused, NoNumber}
 use Rattle.difi_cmd.specs.LineOfWords.{AreGiven, AreWithin, GiveNumbers, GiveValues, Gives, IsLeftOut, IsWithin, OptionRow, Text}
-use Rattle.difi_cmd.specs.LineOfWords.{has_default_within, is_option_name, is_row, is_stray, names_of, value_list, values_of}
+use Rattle.difi_cmd.specs.LineOfWords.{has_default_within, are_rows, is_one_alone, is_option_name, is_row, is_stray, names_of, value_list, values_of}
 use Rattle.difi_cmd.proofs.ClapOptions.{neither_second}
-use Rattle.difi_cmd.proofs.ClapTurns.{IsName}
 use Rattle.difi_cmd.proofs.ClapSpelling.{none_stray, one_spelling}
 
 -- ---- rows
@@ -27,15 +26,17 @@ Lacks-from [] h i lt = absurd (omega arith)
 Lacks-from (x ∷ xs) h zero lt = λ e. let t : true ≡ false = rw e at h in cc
 Lacks-from (x ∷ xs) h (suc i) lt = Lacks-from xs (neither_second (x == 61) _ h) i (omega arith)
 
-name_from : (name : Text) → is_option_name name ≡ true → IsName name
-name_from [] h = cc
-name_from (x ∷ xs) h = (omega arith, Lacks-from (x ∷ xs) (turned _ h))
-
-pub names_from : (rows : List OptionRow) → list_all is_row rows ≡ true → All IsName (names_of rows)
-names_from [] h = All-nil IsName
-names_from (row ∷ rows) h =
+each_lacks : (rows : List OptionRow) → list_all is_row rows ≡ true → All (Lacks 61) (names_of rows)
+each_lacks [] h = All-nil (Lacks 61)
+each_lacks (row ∷ rows) h =
     let two = both (is_row row) (list_all is_row rows) h in
-    All-cons IsName row.name (names_of rows) (name_from row.name (both (is_option_name row.name) _ two.0).0) (names_from rows two.1)
+    All-cons (Lacks 61) row.name (names_of rows) (Lacks-from row.name (turned _ (both (is_option_name row.name) _ two.0).0)) (each_lacks rows two.1)
+
+pub names_from : (rows : List OptionRow) → are_rows rows ≡ true → All (Lacks 61) (names_of rows)
+names_from rows good = each_lacks rows (both (list_all is_row rows) _ good).0
+
+pub one_from : (rows : List OptionRow) → are_rows rows ≡ true → is_one_alone (names_of rows) ≡ true
+one_from rows good = (both (list_all is_row rows) _ good).1
 
 -- ---- numbers and values
 
@@ -102,13 +103,13 @@ numbers_of_values rows words value numbers g h = record {
 }
 
 -- and no others
-pub values_give : (rows : List OptionRow) (words : List Text) (value : Text → Option Text) (numbers : List (Option ℕ)) → list_all is_row rows ≡ true → GiveValues (names_of rows) words value
+pub values_give : (rows : List OptionRow) (words : List Text) (value : Text → Option Text) (numbers : List (Option ℕ)) → are_rows rows ≡ true → GiveValues (names_of rows) words value
     → GiveNumbers rows words numbers → AreGiven rows (λ name. value_list (value name)) numbers
 values_give rows words value numbers good g h =
     let items = one_spelling (names_of rows) (names_from rows good) h.items g.items h.are_items.known g.are_items.known (sym h.are_items.spelled ∙ g.are_items.spelled) in
     same_values rows (λ name. values_of name h.items) (λ name. value_list (value name)) numbers (λ name has. ap (values_of name) items ∙ g.values name has) h.given
 
-pub no_stray : (rows : List OptionRow) (words : List Text) (numbers : List (Option ℕ)) → list_all is_row rows ≡ true → GiveNumbers rows words numbers → list_any is_stray words ≡ false
+pub no_stray : (rows : List OptionRow) (words : List Text) (numbers : List (Option ℕ)) → are_rows rows ≡ true → GiveNumbers rows words numbers → list_any is_stray words ≡ false
 no_stray rows words numbers good g = ap (list_any is_stray) g.are_items.spelled ∙ none_stray (names_of rows) (names_from rows good) g.items g.are_items.known
 
 -- ---- one list of numbers
@@ -134,7 +135,7 @@ one_list (row ∷ rows) values (m ∷ ms) [] h k = absurd k
 one_list (row ∷ rows) values (m ∷ ms) (n ∷ ns) h k = ap₂ (λ (x : Option ℕ) (xs : List (Option ℕ)). x ∷ xs) (one_number row (values row.name) m n h.0 k.0) (one_list rows values ms ns h.1 k.1)
 
 -- words give options one list of numbers at most
-pub one_numbers : (rows : List OptionRow) (words : List Text) (ms ns : List (Option ℕ)) → list_all is_row rows ≡ true → GiveNumbers rows words ms → GiveNumbers rows words ns → ms ≡ ns
+pub one_numbers : (rows : List OptionRow) (words : List Text) (ms ns : List (Option ℕ)) → are_rows rows ≡ true → GiveNumbers rows words ms → GiveNumbers rows words ns → ms ≡ ns
 one_numbers rows words ms ns good g h =
     let items = one_spelling (names_of rows) (names_from rows good) g.items h.items g.are_items.known h.are_items.known (sym g.are_items.spelled ∙ h.are_items.spelled) in
     let first = same_values rows (λ name. values_of name g.items) (λ name. values_of name h.items) ms (λ name has. ap (values_of name) items) g.given in
@@ -157,10 +158,13 @@ within_one row (value ∷ []) None good h = absurd h
 within_one row (value ∷ []) (Some n) good h = (h.at_least, h.at_most)
 within_one row (value ∷ other ∷ values) number good h = absurd h
 
-pub are_within : (rows : List OptionRow) (values : Text → List Text) (numbers : List (Option ℕ)) → list_all is_row rows ≡ true → AreGiven rows values numbers → AreWithin rows numbers
-are_within [] values [] good h = tt
-are_within [] values (n ∷ numbers) good h = absurd h
-are_within (row ∷ rows) values [] good h = absurd h
-are_within (row ∷ rows) values (n ∷ numbers) good h =
+each_within : (rows : List OptionRow) (values : Text → List Text) (numbers : List (Option ℕ)) → list_all is_row rows ≡ true → AreGiven rows values numbers → AreWithin rows numbers
+each_within [] values [] good h = tt
+each_within [] values (n ∷ numbers) good h = absurd h
+each_within (row ∷ rows) values [] good h = absurd h
+each_within (row ∷ rows) values (n ∷ numbers) good h =
     let two = both (is_row row) (list_all is_row rows) good in
-    (within_one row (values row.name) n two.0 h.0, are_within rows values numbers two.1 h.1)
+    (within_one row (values row.name) n two.0 h.0, each_within rows values numbers two.1 h.1)
+
+pub are_within : (rows : List OptionRow) (values : Text → List Text) (numbers : List (Option ℕ)) → are_rows rows ≡ true → AreGiven rows values numbers → AreWithin rows numbers
+are_within rows values numbers good h = each_within rows values numbers (both (list_all is_row rows) _ good).0 h

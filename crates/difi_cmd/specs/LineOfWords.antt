@@ -1,8 +1,8 @@
 -- What a line of words asks for: a command, and options with their values.
-use Rattle.std.specs.Prelude.{◌≡◌, ◌≤◌, ◌==◌, ◌&&◌, ◌++◌, ◌^◌, ℕ, Bool, true, false, not, nat_le, List, [], ◌∷◌}
+use Rattle.std.specs.Prelude.{◌≡◌, ◌<◌, ◌≤◌, ◌==◌, ◌&&◌, ◌++◌, ◌^◌, ℕ, Bool, true, false, not, nat_le, List, [], ◌∷◌}
 use Rattle.std.specs.Prelude.{All, Contains, None, Option, Some, String, codes, drop, filter}
 use Rattle.std.specs.Prelude.{length, map, string_bytes}
-use Rattle.std.specs.List.{flat_map, list_any}
+use Rattle.std.specs.List.{flat_map, list_all, list_any}
 use Rattle.std.specs.Str.{bytes_eq}
 use Rattle.std.specs.Str.Parse.{IsNumeral, digits_value}
 use Rattle.difi_texts.specs.declared.lines.Listing.TheVariants.{Check, Show}
@@ -19,39 +19,49 @@ Text = List ℕ
 
 -- ---- the items behind the command's word
 
--- an option and its value
+-- an option and its value, or a word that stands alone
 pub data Item : Type 0 where
   -- in one word, `--name=value`
   joined : Text → Text → Item
   -- in two words, `--name value`
   apart : Text → Text → Item
+  -- the value of what has no name
+  alone : Text → Item
 
 abbrev pub option_of : Item → Text
 option_of (joined name value) = name
 option_of (apart name value) = name
+option_of (alone value) = []
 
 abbrev pub value_of : Item → Text
 value_of (joined name value) = value
 value_of (apart name value) = value
+value_of (alone value) = value
 
 abbrev pub words_of_item : Item → List Text
 words_of_item (joined name value) = (codes "--" ++ name ++ codes "=" ++ value) ∷ []
 words_of_item (apart name value) = (codes "--" ++ name) ∷ value ∷ []
+words_of_item (alone value) = value ∷ []
 
 abbrev pub BeginsWithHyphen : Text → Type 0
 BeginsWithHyphen [] = ⊥
 BeginsWithHyphen (first ∷ rest) = first ≡ 45
 
--- an option of this list, with its whole name; a value that is a word of its own begins with no
--- hyphen
+-- the whole name of an option of this list
+abbrev pub IsOption : List Text → Text → Type 0
+IsOption names name = Contains names name × (0 < length name)
+
+-- an option of this list; or a word that stands alone, where the list has the empty name; a value
+-- that is a word of its own begins with no hyphen
 abbrev pub IsItem : List Text → Item → Type 0
-IsItem options (joined name value) = Contains options name
-IsItem options (apart name value) = Contains options name × ¬ BeginsWithHyphen value
+IsItem names (joined name value) = IsOption names name
+IsItem names (apart name value) = IsOption names name × ¬ BeginsWithHyphen value
+IsItem names (alone value) = Contains names [] × ¬ BeginsWithHyphen value
 
 -- the words are these items, one after another
-pub record AreItems (options : List Text) (words : List Text) (items : List Item) : Type 0 where
+pub record AreItems (names : List Text) (words : List Text) (items : List Item) : Type 0 where
   pub spelled : words ≡ flat_map words_of_item items
-  pub known : All (IsItem options) items
+  pub known : All (IsItem names) items
 
 -- the values that the items give an option
 abbrev pub values_of : Text → List Item → List Text
@@ -59,7 +69,8 @@ values_of name items = map value_of (filter (λ item. bytes_eq (option_of item) 
 
 -- ---- the number that an option has
 
--- an option of a command: the numbers that its value may write, and what holds where it is left out
+-- an option of a command: the numbers that its value may write, and what holds where it is left
+-- out; one whose name is empty is the word that stands alone
 pub record OptionRow : Type 0 where
   pub name : Text
   pub least : ℕ
@@ -172,10 +183,9 @@ option_row row = record {
 abbrev pub option_rows : List CodeRow → List OptionRow
 option_rows rows = map option_row rows
 
--- a name is not empty, and has no `=` in it
+-- a name has no `=` in it
 abbrev pub is_option_name : Text → Bool
-is_option_name [] = false
-is_option_name (first ∷ rest) = not (list_any (λ byte. byte == 61) (first ∷ rest))
+is_option_name name = not (list_any (λ byte. byte == 61) name)
 
 -- the default is in the range
 abbrev pub has_default_within : ℕ → ℕ → LeftOut → Bool
@@ -186,6 +196,20 @@ has_default_within least greatest NoNumber = true
 
 abbrev pub is_row : OptionRow → Bool
 is_row row = is_option_name row.name && has_default_within row.least row.greatest row.left_out
+
+abbrev pub has_no_name : Text → Bool
+has_no_name [] = true
+has_no_name (first ∷ rest) = false
+
+-- one of these names at most is empty
+abbrev pub is_one_alone : List Text → Bool
+is_one_alone [] = true
+is_one_alone ([] ∷ names) = not (list_any has_no_name names)
+is_one_alone ((first ∷ rest) ∷ names) = is_one_alone names
+
+-- the options can be read
+abbrev pub are_rows : List OptionRow → Bool
+are_rows rows = list_all is_row rows && is_one_alone (names_of rows)
 
 -- the number is in the option's range; there is none only where the option may be left out so
 abbrev pub IsWithin : OptionRow → Option ℕ → Type 0

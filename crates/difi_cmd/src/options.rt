@@ -5,7 +5,7 @@ ghost use Rattle.std.specs.List.{list_all, list_any};
 ghost use Rattle.std.specs.Str.Parse.{digits_value};
 ghost use Rattle.clap.specs.Words.{app_of, first_value, found_of, rule_of};
 ghost use Rattle.difi_cmd.specs.LineOfWords.{AreGiven, AreWithin, GiveNumbers, Gives, IsLeftOut};
-ghost use Rattle.difi_cmd.specs.LineOfWords.{GiveValues, IsValue, Text, is_row, names_of};
+ghost use Rattle.difi_cmd.specs.LineOfWords.{GiveValues, IsValue, Text, are_rows, names_of};
 ghost use Rattle.difi_cmd.specs.LineOfWords.{option_row, option_rows, value_list};
 ghost use Rattle.difi_cmd.specs.LineOfWords.{has_stray as has_stray_word};
 ghost use Rattle.difi_cmd.specs.LineOfWords.{is_stray as is_stray_word};
@@ -27,7 +27,8 @@ pub(crate) enum WordsFault {
     Memory,
 }
 
-/// An option of a command: `--name N` or `--name=N`, at most once.
+/// An option of a command, as `--name N` or `--name=N`; or, where its name is empty, a word that
+/// stands alone. It stands at most once.
 #[derive(Clone, Copy, Debug, PartialEq, Eq)]
 pub(crate) struct OptionRow {
     /// Its name, without hyphens.
@@ -59,7 +60,7 @@ pub(crate) fn numbers_given(
     rows: &[OptionRow],
     words: &[String],
 ) -> Result<Vec<Option<u64>>, WordsFault>
-    requires { list_all is_row (option_rows rows.now) ≡ true }
+    requires { are_rows (option_rows rows.now) ≡ true }
     ensures given { IfOk result (λ numbers.
         GiveNumbers (option_rows rows.now) (drop 1 (map string_bytes words.now)) numbers.items) }
     ensures within { IfOk result (λ numbers. AreWithin (option_rows rows.now) numbers.items) }
@@ -81,7 +82,7 @@ fn matches_of<'a>(
     rows: &[OptionRow],
     words: &'a [String],
 ) -> Result<ArgMatches<'a>, WordsFault>
-    requires rows { list_all is_row (option_rows rows.now) ≡ true }
+    requires rows { are_rows (option_rows rows.now) ≡ true }
     requires plain { has_stray_word words.now ≡ false }
     ensures given { IfOk result (λ matches.
         GiveValues (names_of (option_rows rows.now)) (drop 1 (map string_bytes words.now)) (first_value (found_of matches))) }
@@ -141,9 +142,12 @@ impl OptionRow {
         ensures rule { rule_of result ≡ option_rule (option_row self.now).name }
         ensures own { result.global ≡ false }
     {
-        Arg::new(alloc, self.name)
-            .long(self.name)
-            .action(ArgAction::Set)
+        let arg = Arg::new(alloc, self.name).action(ArgAction::Set);
+        if self.name.is_empty() {
+            arg
+        } else {
+            arg.long(self.name)
+        }
     }
 
     // The number of the option where the words give it this value, or none.

@@ -1,52 +1,77 @@
+ghost use Rattle.std.specs.Prelude.{◌≡◌, true};
+ghost use Rattle.difi_cmd.specs.LineOfWords.{are_rows, option_rows};
+
 use crate::options::{LeftOut, OptionRow, WordsFault, numbers_given};
 use std::alloc::{AllocError, Global};
 use std::test::Fail;
 
-// Options of each kind: with a default, one that the words must have, and one that they may lack.
-const ROWS: [OptionRow; 3] = [
-    OptionRow {
-        name: "ring",
-        least: 1,
-        greatest: 4096,
-        left_out: LeftOut::Default(64),
-    },
-    OptionRow {
-        name: "port",
-        least: 0,
-        greatest: 65_535,
-        left_out: LeftOut::Refused,
-    },
-    OptionRow {
-        name: "rings",
-        least: 3,
-        greatest: 5,
-        left_out: LeftOut::NoNumber,
-    },
-];
+const RING: OptionRow = OptionRow {
+    name: "ring",
+    least: 1,
+    greatest: 4096,
+    left_out: LeftOut::Default(64),
+};
 
-// The numbers of ring, port and rings, by the words behind the first.
+const PORT: OptionRow = OptionRow {
+    name: "port",
+    least: 0,
+    greatest: 65_535,
+    left_out: LeftOut::Refused,
+};
+
+const RINGS: OptionRow = OptionRow {
+    name: "rings",
+    least: 3,
+    greatest: 5,
+    left_out: LeftOut::NoNumber,
+};
+
+// A word that stands alone, which the words must have.
+const SEED: OptionRow = OptionRow {
+    name: "",
+    least: 0,
+    greatest: 4_294_967_295,
+    left_out: LeftOut::Refused,
+};
+
+type Numbers = [Option<u64>; 3];
+
+const USAGE: Result<Numbers, WordsFault> = Err(WordsFault::Usage);
+
+// The numbers that words behind a first one give ring, port and rings.
 fn read(alloc: Global, words: &[&str]) -> Result<Result<Numbers, WordsFault>, AllocError> {
+    read_rows(alloc, &[RING, PORT, RINGS], words)
+}
+
+// The numbers that they give ring, the word that stands alone, and rings.
+fn read_word(alloc: Global, words: &[&str]) -> Result<Result<Numbers, WordsFault>, AllocError> {
+    read_rows(alloc, &[RING, SEED, RINGS], words)
+}
+
+fn read_rows(
+    alloc: Global,
+    rows: &[OptionRow; 3],
+    words: &[&str],
+) -> Result<Result<Numbers, WordsFault>, AllocError>
+    requires { are_rows (option_rows rows.now) ≡ true }
+{
     let mut owned = Vec::new(alloc);
     owned.push(String::from_str(alloc, "egress")?)?;
     for word in words {
         owned.push(String::from_str(alloc, *word)?)?;
     }
-    Ok(match numbers_given(alloc, &ROWS, &owned) {
+    Ok(match numbers_given(alloc, rows, &owned) {
         Ok(numbers) => Ok(numbers_of(numbers.as_slice())),
         Err(fault) => Err(fault),
     })
 }
 
-type Numbers = [Option<u64>; 3];
-
 fn numbers_of(numbers: &[Option<u64>]) -> Numbers {
     match numbers {
-        [ring, port, rings] => [*ring, *port, *rings],
+        [first, second, third] => [*first, *second, *third],
         _ => [None, None, None],
     }
 }
-
-const USAGE: Result<Numbers, WordsFault> = Err(WordsFault::Usage);
 
 #[test]
 fn what_is_left_out_has_its_default_or_no_number(rt: HostRuntime) -> Result<(), Fail> {
@@ -120,5 +145,36 @@ fn names_are_whole(rt: HostRuntime) -> Result<(), Fail> {
     assert_eq!(rt; read(alloc, &["--port=7", "--por=2"])?, USAGE);
     assert_eq!(rt; read(alloc, &["--port=7", "--ports=2"])?, USAGE);
     assert_eq!(rt; read(alloc, &["--port=7", "-r", "2"])?, USAGE);
+    Ok(())
+}
+
+#[test]
+fn a_word_may_stand_alone(rt: HostRuntime) -> Result<(), Fail> {
+    let alloc = rt.alloc();
+    let numbers = [Some(2), Some(7), Some(4)];
+    let one = ["7", "--ring=2", "--rings", "4"];
+    assert_eq!(rt; read_word(alloc, &one)?, Ok(numbers));
+    let other = ["--rings=4", "7", "--ring", "2"];
+    assert_eq!(rt; read_word(alloc, &other)?, Ok(numbers));
+    let last = ["--rings", "4", "--ring=2", "007"];
+    assert_eq!(rt; read_word(alloc, &last)?, Ok(numbers));
+    let alone = [Some(64), Some(4_294_967_295), None];
+    assert_eq!(rt; read_word(alloc, &["4294967295"])?, Ok(alone));
+    Ok(())
+}
+
+#[test]
+fn one_word_stands_alone(rt: HostRuntime) -> Result<(), Fail> {
+    let alloc = rt.alloc();
+    assert_eq!(rt; read_word(alloc, &["7", "8"])?, USAGE);
+    assert_eq!(rt; read_word(alloc, &["7", "--ring=2", "7"])?, USAGE);
+    assert_eq!(rt; read_word(alloc, &[])?, USAGE);
+    assert_eq!(rt; read_word(alloc, &["--ring", "7"])?, USAGE);
+    assert_eq!(rt; read_word(alloc, &["4294967296"])?, USAGE);
+    assert_eq!(rt; read_word(alloc, &[""])?, USAGE);
+    assert_eq!(rt; read_word(alloc, &["-7"])?, USAGE);
+    assert_eq!(rt; read_word(alloc, &["-"])?, USAGE);
+    assert_eq!(rt; read_word(alloc, &["--", "7"])?, USAGE);
+    assert_eq!(rt; read_word(alloc, &["--=7"])?, USAGE);
     Ok(())
 }

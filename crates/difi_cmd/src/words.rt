@@ -1,8 +1,7 @@
 ghost use Rattle.std.specs.Prelude.{◌≡◌, ◌≢◌, IfOk, IfSome, IfNone, Option, List, ℕ, true};
 ghost use Rattle.std.specs.Prelude.{All, codes, map, string_bytes};
-ghost use Rattle.std.specs.List.{list_all};
 ghost use Rattle.difi_cmd.specs.LineOfWords.{AreWithin, Asks, NamesCommand, command_of};
-ghost use Rattle.difi_cmd.specs.LineOfWords.{is_row, numbers_of, option_rows, row_of};
+ghost use Rattle.difi_cmd.specs.LineOfWords.{are_rows, numbers_of, option_rows, row_of};
 
 use crate::options::{LeftOut, OptionRow, WordsFault, numbers_given};
 use difi_texts::Listing;
@@ -107,7 +106,7 @@ pub(crate) fn line_of(alloc: Global, words: &[String]) -> Result<Line, WordsFaul
 fn first_row(words: &[String]) -> Option<CommandRow>
     ensures found { IfSome result (λ row. NamesCommand words.now row.command) }
     ensures options { IfSome result (λ row. option_rows row.options.now ≡ (row_of row.command).options) }
-    ensures rows { IfSome result (λ row. list_all is_row (option_rows row.options.now) ≡ true) }
+    ensures rows { IfSome result (λ row. are_rows (option_rows row.options.now) ≡ true) }
     ensures none { IfNone result ((command : CommandName) → ¬ NamesCommand words.now command) }
 {
     command_row(words.first()?.as_str())
