@@ -1,6 +1,7 @@
 -- Words ask for one line at most, and none of its words is `--`.
-use Rattle.std.proofs.Common.{◌≡◌, ◌≢◌, ◌∙◌, ℕ, true, false, List, [], ◌∷◌, drop, map, Option, Some, None, String, codes, string_bytes, refl, sym, ap, ap₂, subst, All}
+use Rattle.std.proofs.Common.{if◌then◌else◌, ◌≡◌, ◌≢◌, ◌∙◌, ℕ, true, false, List, [], ◌∷◌, drop, map, Option, Some, None, String, codes, string_bytes, refl, sym, ap, ap₂, subst, All}
 use Rattle.std.specs.List.{list_any}
+use Rattle.std.specs.Str.{bytes_eq}
 use Rattle.std.proofs.lemmas.List.Elements.{All-cons, All-nil}
 use Rattle.difi_texts.specs.declared.lines.Listing.TheVariants.{Check, Show}
 use Rattle.difi_cmd.specs.declared.words.CommandName.{CommandName}
@@ -18,16 +19,16 @@ pub have_rows : (command : CommandName) → are_rows (row_of command).options �
 have_rows (names.List Check) = refl
 have_rows (names.List Show) = refl
 
--- its word is that of no other, and is not `--`
-one_word : (command other : CommandName) → (row_of command).word ≡ (row_of other).word → command ≡ other
-one_word (names.List Check) (names.List Check) h = refl
-one_word (names.List Check) (names.List Show) h = cc
-one_word (names.List Show) (names.List Check) h = cc
-one_word (names.List Show) (names.List Show) h = refl
+-- its word names it
+named_by : Text → Option CommandName
+named_by word =
+    if bytes_eq word (codes "check") then Some (names.List Check)
+    else (if bytes_eq word (codes "show") then Some (names.List Show) else None)
 
-no_dashes_first : (command : CommandName) → (row_of command).word ≢ codes "--"
-no_dashes_first (names.List Check) = λ h. cc
-no_dashes_first (names.List Show) = λ h. cc
+is_named : (command : CommandName) → named_by (row_of command).word ≡ Some command
+unfolding named_by
+is_named (names.List Check) = refl
+is_named (names.List Show) = refl
 
 -- its numbers have one line
 line_from : CommandName → List (Option ℕ) → Option Line
@@ -39,6 +40,19 @@ unfolding line_from
 from_line (lines.List options) = refl
 
 -- ---- the laws
+
+-- the word of a command is that of no other, and is not `--`
+one_word : (command other : CommandName) → (row_of command).word ≡ (row_of other).word → command ≡ other
+one_word command other h =
+    let same : Some command ≡ Some other = sym (is_named command) ∙ (ap named_by h ∙ is_named other) in
+    cc
+
+no_dashes_first : (command : CommandName) → (row_of command).word ≢ codes "--"
+unfolding named_by
+no_dashes_first command h =
+    let none : named_by (codes "--") ≡ None = refl in
+    let bad : Some command ≡ None = sym (is_named command) ∙ (ap named_by h ∙ none) in
+    cc
 
 same_line : (line other : Line) → command_of line ≡ command_of other → numbers_of line ≡ numbers_of other → line ≡ other
 same_line line other command numbers =
