@@ -44,7 +44,8 @@ const MAX_BYTES: OptionRow = OptionRow {
     left_out: LeftOut::Default(1 << 40),
 };
 
-// The table of the commands: the word of each, and its options.
+// The table of the commands: the word of each, and its options. A command joins by a row here and in
+// `row_of`, with its line in `Line`, `line_with`, `command_of` and `numbers_of`.
 fn command_row(word: &str) -> Option<CommandRow>
     ensures found { IfSome result (λ row. word.now ≡ (row_of row.command).word) }
     ensures options { IfSome result (λ row. option_rows row.options.now ≡ (row_of row.command).options) }
@@ -82,7 +83,7 @@ fn line_with(command: CommandName, numbers: &[Option<u64>]) -> Option<Line>
 }
 
 /// What these words ask for, which are those behind the program's name: first the word of a
-/// command, then options with their values, each as `--max-bytes N` or as `--max-bytes=N`.
+/// command, then its options in any order, each as `--max-bytes N` or as `--max-bytes=N`.
 pub(crate) fn line_of(alloc: Global, words: &[String]) -> Result<Line, WordsFault>
     ensures found { IfOk result (λ line. Asks words.now line) }
     ensures usage { result ≡ Err WordsFault.Usage → (line : Line) → ¬ Asks words.now line }
