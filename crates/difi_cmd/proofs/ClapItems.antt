@@ -3,27 +3,17 @@ use Rattle.std.proofs.Common.{◌≡◌, ◌≤◌, ◌||◌, ◌++◌, ◌∙�
 use Rattle.std.specs.Str.{bytes_eq}
 use Rattle.std.proofs.lemmas.List.{append-nil, append_assoc}
 use Rattle.std.proofs.lemmas.List.Elements.{All-head, All-tail}
-use Rattle.std.proofs.lemmas.List.Folds.{list_any-append}
 use Rattle.std.proofs.lemmas.Slice.Eq.{bytes_eq-Decides}
 use Rattle.clap.specs.Words.{Row, first_of}
 use Rattle.clap.specs.Walk.{has_row}
-use Rattle.difi_cmd.specs.LineOfWords.{AreItems, Item, IsItem, Text, apart, joined, option_of, value_list, value_of, values_of}
-use Rattle.difi_cmd.proofs.ClapOptions.{Once, after, row_for, rows_for, same_text}
+use Rattle.difi_cmd.specs.LineOfWords.{Item, IsItem, Text, alone, apart, joined, option_of, value_list, value_of, values_of}
+use Rattle.difi_cmd.proofs.ClapOptions.{Once, after, row_behind, row_for, rows_for, same_text}
 use Rattle.difi_cmd.proofs.ClapWalk.{once_before}
-
--- the words are items of these options, and give each its value or none
-pub record GiveValues (names : List Text) (words : List Text) (value : Text → Option Text) : Type 0 where
-  pub items : List Item
-  pub are_items : AreItems names words items
-  pub values : (name : Text) → Contains names name → values_of name items ≡ value_list (value name)
 
 -- the rows stand in the order of the items
 pub rows_in_order : (items before : List Item) → rows_for (after items before) ≡ rows_for before ++ map row_for items
 rows_in_order [] before = sym (append-nil (rows_for before))
 rows_in_order (item ∷ items) before = rows_in_order items (item ∷ before) ∙ append_assoc (rows_for before) (row_for item ∷ []) (map row_for items)
-
-row_of_item : (name : Text) (item : Item) (before : List Item) → has_row name (rows_for (item ∷ before)) ≡ (has_row name (rows_for before) || has_row name (row_for item ∷ []))
-row_of_item name item before = list_any-append (λ (r : Row). bytes_eq r.id name) (rows_for before) (row_for item ∷ [])
 
 or_true : (a b : Bool) → b ≡ true → (a || b) ≡ true
 or_true true b h = refl
@@ -34,7 +24,7 @@ or_false true b absent h = refl
 or_false false b absent h = let bad : false ≡ true = sym absent ∙ h in cc
 
 has_before : (name : Text) (item : Item) (before : List Item) → has_row name (rows_for before) ≡ true → has_row name (rows_for (item ∷ before)) ≡ true
-has_before name item before h = row_of_item name item before ∙ ap (λ (b : Bool). b || has_row name (row_for item ∷ [])) h
+has_before name item before h = row_behind name before item ∙ ap (λ (b : Bool). b || has_row name (row_for item ∷ [])) h
 
 -- an option that stood before stands no more
 none_left : (name : Text) (items before : List Item) → Once (after items before) → has_row name (rows_for before) ≡ true → values_of name items ≡ []
@@ -59,7 +49,7 @@ first_value name (item ∷ items) before once =
         → values_of name (item ∷ items) ≡ value_list (first_of name (map row_for (item ∷ items)))
     go true e rest none =
         let here : has_row name (row_for item ∷ []) ≡ true = rw e refl in
-        let stands : has_row name (rows_for (item ∷ before)) ≡ true = row_of_item name item before ∙ or_true (has_row name (rows_for before)) _ here in
+        let stands : has_row name (rows_for (item ∷ before)) ≡ true = row_behind name before item ∙ or_true (has_row name (rows_for before)) _ here in
         rw e (ap (λ (vs : List Text). value_of item ∷ vs) (none stands))
     go false e rest none = rw e rest
 
@@ -68,8 +58,9 @@ pub value_is : (name : Text) (items : List Item) → Once (after items []) → v
 value_is name items once = first_value name items [] once ∙ ap (λ (rows : List Row). value_list (first_of name rows)) (sym (rows_in_order items []))
 
 known_option : (names : List Text) (item : Item) → IsItem names item → Contains names (option_of item)
-known_option names (joined name value) h = h
-known_option names (apart name value) h = h.0
+known_option names (joined name value) h = h.0
+known_option names (apart name value) h = h.0.0
+known_option names (alone value) h = h.0
 
 no_more : (value : Text) (values : List Text) → length (value ∷ values) ≤ 1 → values ≡ []
 no_more value [] h = refl
@@ -106,7 +97,7 @@ once_items names (item ∷ items) before known few gone once =
         split true e = no_more (value_of item) (values_of name items) (rw e at (few name among))
         split false e =
             let absent : has_row name (row_for item ∷ []) ≡ false = rw e refl in
-            let earlier = or_false (has_row name (rows_for before)) _ absent (sym (row_of_item name item before) ∙ stands) in
+            let earlier = or_false (has_row name (rows_for before)) _ absent (sym (row_behind name before item) ∙ stands) in
             rw e at (gone name among earlier)
 
 short_list : (value : Option Text) → length (value_list value) ≤ 1

@@ -1,7 +1,8 @@
 -- What `clap` makes of one word.
-use Rattle.std.proofs.Common.{◌≡◌, ◌≢◌, ◌<◌, ◌==◌, ◌++◌, ◌∙◌, ℕ, Bool, true, false, zero, suc, List, [], ◌∷◌, length, Option, Some, None, map, codes, refl, sym, ap, ap₂, subst, inl, inr, ◌⊎◌, arith, Contains}
+use Rattle.std.proofs.Common.{◌≡◌, ◌≢◌, ◌<◌, ◌==◌, ◌&&◌, ◌++◌, ◌∙◌, ℕ, Bool, true, false, zero, suc, List, [], ◌∷◌, length, Option, Some, None, map, codes, refl, sym, ap, ap₂, subst, inl, inr, ◌⊎◌, arith, All, Contains}
 use Rattle.std.specs.Str.{bytes_eq}
 use Rattle.std.proofs.lemmas.List.{append_assoc}
+use Rattle.std.proofs.lemmas.List.Elements.{All-contains}
 use Rattle.std.proofs.lemmas.Slice.Eq.{bytes_eq-Decides}
 use Rattle.clap.specs.Words.{Row}
 use Rattle.clap.specs.Kinds.{or_else}
@@ -10,14 +11,18 @@ use Rattle.clap.proofs.CutLemmas.{Lacks}
 use Rattle.clap.proofs.LexerLemmas.{name_and_value-at, name_and_value-without}
 use Rattle.std.proofs.lemmas.Bool.Decides.{nat_tests}
 use Rattle.clap.specs.Faults.{react_fault, settle_fault, turn_fault}
-use Rattle.clap.specs.Walk.{Held, Waiting, Walk, arg_by_long, idle, option, positional, reacted, settled, walk_from, walked}
-use Rattle.difi_cmd.specs.LineOfWords.{BeginsWithHyphen, Text, is_stray}
-use Rattle.difi_cmd.proofs.ClapOptions.{built_rule, built_shape, known_id, known_long, no_position, same_text}
+use Rattle.clap.specs.Walk.{Held, Waiting, Walk, arg_by_index, arg_by_long, idle, is_pending, option, positional, reacted, settled, walk_from, walked}
+use Rattle.difi_cmd.specs.LineOfWords.{BeginsWithHyphen, IsOption, Text, is_stray}
+use Rattle.difi_cmd.proofs.ClapOptions.{built_rule, built_shape, known_alone, known_id, known_long, same_text}
 
 -- ---- the words of an option
 
 abbrev pub IsName : Text → Type 0
 IsName name = (0 < length name) × Lacks 61 name
+
+-- an option's name is one where no name of the list has an `=`
+pub name_of_option : (names : List Text) (name : Text) → All (Lacks 61) names → IsOption names name → IsName name
+name_of_option names name good has = (has.1, All-contains (Lacks 61) names name good has.0)
 
 abbrev pub dashes : Text
 dashes = 45 ∷ 45 ∷ []
@@ -125,46 +130,65 @@ long_no_dashes word p h = go (bytes_eq word dashes) refl
 
 -- ---- one word
 
-pub joined_turn : (names : List Text) (h : Held) (word name value : Text) → long_of word ≡ Some (name, Some value) → Contains names name
-    → (walked (map built_rule names) [] (walk_from h) word ≡ walk_from (reacted (map built_rule names) (built_rule name) (value ∷ []) h))
-    × (turn_fault (built_shape names) [] (walk_from h) word ≡ or_else (react_fault (map built_rule names) false (built_rule name) (value ∷ []) h) [])
+-- where the walk stands with this place for a word that stands alone
+abbrev pub walk_at : ℕ → Held → Walk
+walk_at position h = record (walk_from h) { position = position }
+
+pub joined_turn : (names : List Text) (place : ℕ) (h : Held) (word name value : Text) → long_of word ≡ Some (name, Some value) → IsOption names name
+    → (walked (map built_rule names) [] (walk_at place h) word ≡ walk_at place (reacted (map built_rule names) (built_rule name) (value ∷ []) h))
+    × (turn_fault (built_shape names) [] (walk_at place h) word ≡ or_else (react_fault (map built_rule names) false (built_rule name) (value ∷ []) h) [])
 unfolding walked
-joined_turn names h word name value long has =
+joined_turn names place h word name value long has =
     let dash = long_no_dashes word (name, Some value) long in
-    (rw (dash, long, known_long names name has) refl, rw (dash, long, known_long names name has) refl)
+    (rw (dash, long, known_long names name has.0 has.1) refl, rw (dash, long, known_long names name has.0 has.1) refl)
 
 -- where an option waits for its value
-abbrev pub waits_for : Text → List Row → Walk
-waits_for name rows = record (walk_from (record { rows = rows; pending = Some (name, []); skip = 0 })) { waiting = option name }
+abbrev pub waits_for : Text → ℕ → List Row → Walk
+waits_for name place rows = record (walk_at place (record { rows = rows; pending = Some (name, []); skip = 0 })) { waiting = option name }
 
-pub opened_turn : (names : List Text) (h : Held) (word name : Text) → h.skip ≡ 0 → long_of word ≡ Some (name, None) → Contains names name
-    → (walked (map built_rule names) [] (walk_from h) word ≡ record (walk_from (record (settled (map built_rule names) h) { pending = Some (name, []) })) { waiting = option name })
-    × (turn_fault (built_shape names) [] (walk_from h) word ≡ or_else (settle_fault (map built_rule names) false h) [])
+pub opened_turn : (names : List Text) (place : ℕ) (h : Held) (word name : Text) → h.skip ≡ 0 → long_of word ≡ Some (name, None) → IsOption names name
+    → (walked (map built_rule names) [] (walk_at place h) word ≡ record (walk_at place (record (settled (map built_rule names) h) { pending = Some (name, []) })) { waiting = option name })
+    × (turn_fault (built_shape names) [] (walk_at place h) word ≡ or_else (settle_fault (map built_rule names) false h) [])
 unfolding walked
-opened_turn names h word name skip long has =
+opened_turn names place h word name skip long has =
     let dash = long_no_dashes word (name, None) long in
-    (rw (dash, long, known_long names name has) refl, rw (dash, long, known_long names name has) refl)
+    (rw (dash, long, known_long names name has.0 has.1) refl, rw (dash, long, known_long names name has.0 has.1) refl)
 
-pub unknown_turn : (names : List Text) (h : Held) (waiting : Waiting) (word name : Text) (value : Option Text) → long_of word ≡ Some (name, value)
-    → arg_by_long (map built_rule names) name ≡ None → turn_fault (built_shape names) [] (record (walk_from h) { waiting = waiting }) word ≡ [] → ⊥
-unknown_turn names h idle word name value long none e = let bad = rw (long_no_dashes word (name, value) long, long, none) at e in cc
-unknown_turn names h (option id) word name value long none e = let bad = rw (long_no_dashes word (name, value) long, long, none) at e in cc
-unknown_turn names h positional word name value long none e = let bad = rw (long_no_dashes word (name, value) long, long, none) at e in cc
+pub unknown_turn : (names : List Text) (place : ℕ) (h : Held) (waiting : Waiting) (word name : Text) (value : Option Text) → long_of word ≡ Some (name, value)
+    → arg_by_long (map built_rule names) name ≡ None → turn_fault (built_shape names) [] (record (walk_at place h) { waiting = waiting }) word ≡ [] → ⊥
+unknown_turn names place h idle word name value long none e = let bad = rw (long_no_dashes word (name, value) long, long, none) at e in cc
+unknown_turn names place h (option id) word name value long none e = let bad = rw (long_no_dashes word (name, value) long, long, none) at e in cc
+unknown_turn names place h positional word name value long none e = let bad = rw (long_no_dashes word (name, value) long, long, none) at e in cc
 
-pub plain_turn : (names : List Text) (h : Held) (word : Text) → IsPlainWord word → turn_fault (built_shape names) [] (walk_from h) word ≡ [] → ⊥
-plain_turn names h word plain e = let bad = rw (plain.no_dashes, plain.no_long, plain.no_short, no_position names 1) at e in cc
+-- a word that nothing takes
+pub plain_turn : (names : List Text) (place : ℕ) (h : Held) (word : Text) → IsPlainWord word → arg_by_index (map built_rule names) place ≡ None
+    → turn_fault (built_shape names) [] (walk_at place h) word ≡ [] → ⊥
+plain_turn names place h word plain none e = let bad = rw (plain.no_dashes, plain.no_long, plain.no_short, none) at e in cc
 
-pub value_turn : (names : List Text) (name word : Text) (rows : List Row) → Contains names name → IsPlainWord word
-    → (walked (map built_rule names) [] (waits_for name rows) word ≡ walk_from (record { rows = rows; pending = Some (name, word ∷ []); skip = 0 }))
-    × (turn_fault (built_shape names) [] (waits_for name rows) word ≡ [])
+never : (b : Bool) → (b && false) ≡ false
+never true = refl
+never false = refl
+
+-- a word that stands alone, the first of them
+pub alone_turn : (names : List Text) (h : Held) (word : Text) → IsPlainWord word → Contains names []
+    → (walked (map built_rule names) [] (walk_at 1 h) word ≡ walk_at 2 (record (settled (map built_rule names) h) { pending = Some ([], word ∷ []) }))
+    × (turn_fault (built_shape names) [] (walk_at 1 h) word ≡ settle_fault (map built_rule names) false h)
 unfolding walked
-value_turn names name word rows has plain =
+alone_turn names h word plain has =
+    let none = never (is_pending (built_rule []) h.pending) in
+    (rw (plain.no_dashes, plain.no_long, plain.no_short, known_alone names has, none) refl, rw (plain.no_dashes, plain.no_long, plain.no_short, known_alone names has, none) refl)
+
+pub value_turn : (names : List Text) (name word : Text) (place : ℕ) (rows : List Row) → Contains names name → IsPlainWord word
+    → (walked (map built_rule names) [] (waits_for name place rows) word ≡ walk_at place (record { rows = rows; pending = Some (name, word ∷ []); skip = 0 }))
+    × (turn_fault (built_shape names) [] (waits_for name place rows) word ≡ [])
+unfolding walked
+value_turn names name word place rows has plain =
     (rw (plain.no_dashes, plain.no_long, plain.no_short, known_id names name has, same_text name) refl, rw (plain.no_dashes, plain.no_long, plain.no_short) refl)
 
 -- an option that waits gets no value from another
-pub no_value_turn : (names : List Text) (name word other : Text) (value : Option Text) (rows : List Row) → Contains names name → Contains names other
-    → long_of word ≡ Some (other, value) → turn_fault (built_shape names) [] (waits_for name rows) word ≡ [] → ⊥
-no_value_turn names name word other (Some value) rows has known long e =
-    let bad = rw (long_no_dashes word (other, Some value) long, long, known_long names other known, known_id names name has) at e in cc
-no_value_turn names name word other None rows has known long e =
-    let bad = rw (long_no_dashes word (other, None) long, long, known_long names other known, known_id names name has) at e in cc
+pub no_value_turn : (names : List Text) (name word other : Text) (value : Option Text) (place : ℕ) (rows : List Row) → Contains names name → IsOption names other
+    → long_of word ≡ Some (other, value) → turn_fault (built_shape names) [] (waits_for name place rows) word ≡ [] → ⊥
+no_value_turn names name word other (Some value) place rows has known long e =
+    let bad = rw (long_no_dashes word (other, Some value) long, long, known_long names other known.0 known.1, known_id names name has) at e in cc
+no_value_turn names name word other None place rows has known long e =
+    let bad = rw (long_no_dashes word (other, None) long, long, known_long names other known.0 known.1, known_id names name has) at e in cc

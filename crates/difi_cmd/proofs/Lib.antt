@@ -8,6 +8,7 @@ pub mod ClapWalk
 pub mod ClapSpelling
 pub mod ClapItems
 pub mod ClapCommand
-pub mod MaxBytes
+pub mod Rows
+pub mod Numbers
 pub mod Values
 pub mod LineLaws

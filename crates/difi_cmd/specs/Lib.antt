@@ -1,4 +1,5 @@
 pub mod Text
 pub mod Telling
 pub mod LineOfWords
+pub mod CommandOfOptions
 pub mod Outcome

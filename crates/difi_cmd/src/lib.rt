@@ -5,6 +5,9 @@
 mod judging;
 mod laws;
 mod list;
+mod options;
+#[cfg(test)]
+mod options_tests;
 mod report;
 mod run;
 #[cfg(test)]

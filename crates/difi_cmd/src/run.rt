@@ -2,12 +2,11 @@ ghost use Rattle.std.specs.Prelude.{◌≡◌, ◌≢◌, ◌⊎◌, ◌↔◌, 
 ghost use Rattle.difi_io.specs.Faults.{Rose};
 ghost use Rattle.difi_cmd.specs.declared.words.Line.{Line};
 ghost use Rattle.difi_cmd.specs.LineOfWords.{Asks};
-ghost use Rattle.replay_form.specs.RecordGrammar.{record_grammar};
-ghost use Rattle.record_run.specs.Outcome.{IsOutcome, IsVerdict};
-ghost use Rattle.difi_cmd.specs.Outcome.{behaviour_of};
+ghost use Rattle.difi_cmd.specs.Outcome.{DoesLine, IsLineVerdict};
 
 use crate::list::list;
-use crate::words::{WordsFault, line_of};
+use crate::options::WordsFault;
+use crate::words::{Line, line_of};
 use difi_io::{Gate, Sink, Source};
 use record_run::Status;
 use std::alloc::Global;
@@ -35,27 +34,21 @@ pub fn difi_run<R: Threads + Sync, S: Source + Send, K: Sink + Send, G: Gate + S
     ensures memory { result ≡ Status.Memory → (source.new ≡ source.old) × (sink.new ≡ sink.old) }
 
     // Every other status has its cause in what the line does, with the bytes taken and the text written.
-    ensures outcome { result ≢ Status.Usage → result ≢ Status.Memory → (line : Line) × Asks words.now line
-        × IsOutcome result (behaviour_of line)
-        (record {
-          left = S.left source.old;
-          left_now = S.left source.new;
-          held = K.held sink.old;
-          held_now = K.held sink.new;
-          reads = S.faults source.old;
-          reads_now = S.faults source.new;
-          writes = K.faults sink.old;
-          writes_now = K.faults sink.new;
-        }) }
+    ensures outcome { result ≢ Status.Usage → result ≢ Status.Memory → (line : Line) × (Asks words.now line × DoesLine result line
+        (record { left = S.left source.old; left_now = S.left source.new; held = K.held sink.old; held_now = K.held sink.new;
+        reads = S.faults source.old; reads_now = S.faults source.new; writes = K.faults sink.old; writes_now = K.faults sink.new })) }
 
     // Where no read and no write fails, the bytes decide, unless memory runs out.
     ensures complete { (line : Line) → Asks words.now line → ¬ Rose (S.faults source.old) (S.faults source.new) →
         ¬ Rose (K.faults sink.old) (K.faults sink.new) →
-        IfSome (S.left source.old) (λ bytes. (result ≡ Status.Memory) ⊎ IsVerdict record_grammar line.max_bytes bytes result) }
+        IfSome (S.left source.old) (λ bytes. (result ≡ Status.Memory) ⊎ IsLineVerdict line bytes result) }
 {
-    match line_of(alloc, words) {
-        Ok(line) => list(alloc, line, source, sink),
-        Err(WordsFault::Usage) => Status::Usage,
-        Err(WordsFault::Memory) => Status::Memory,
+    let line = match line_of(alloc, words) {
+        Ok(line) => line,
+        Err(WordsFault::Usage) => return Status::Usage,
+        Err(WordsFault::Memory) => return Status::Memory,
+    };
+    match line {
+        Line::List(options) => list(alloc, options, source, sink),
     }
 }

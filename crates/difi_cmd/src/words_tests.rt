@@ -1,4 +1,5 @@
-use crate::words::{Line, WordsFault, line_of};
+use crate::options::WordsFault;
+use crate::words::{Line, ListOptions, line_of};
 use difi_texts::Listing;
 use std::alloc::{AllocError, Global};
 use std::test::Fail;
@@ -16,10 +17,10 @@ const USAGE: Result<Line, WordsFault> = Err(WordsFault::Usage);
 
 // A check of so many bytes at most.
 fn check(max_bytes: u64) -> Result<Line, WordsFault> {
-    Ok(Line {
+    Ok(Line::List(ListOptions {
         listing: Listing::Check,
         max_bytes,
-    })
+    }))
 }
 
 #[test]
@@ -35,11 +36,11 @@ fn the_first_word_names_the_listing(rt: HostRuntime) -> Result<(), Fail> {
 #[test]
 fn without_the_option_its_default_holds(rt: HostRuntime) -> Result<(), Fail> {
     let alloc = rt.alloc();
-    let show = Line {
+    let show = ListOptions {
         listing: Listing::Show,
         max_bytes: 1_099_511_627_776,
     };
-    assert_eq!(rt; read(alloc, &["show"])?, Ok(show));
+    assert_eq!(rt; read(alloc, &["show"])?, Ok(Line::List(show)));
     assert_eq!(rt; read(alloc, &["check"])?, check(1_099_511_627_776));
     Ok(())
 }

@@ -1,15 +1,15 @@
-use Rattle.std.proofs.Common.{Option, subst}
-use Rattle.difi_cmd.specs.LineOfWords.{Gives, Text, max_bytes_range, value_list}
-use Rattle.difi_cmd.proofs.MaxBytes.{one_value, value_of_line}
+use Rattle.std.proofs.Common.{◌∙◌, sym}
+use Rattle.difi_cmd.specs.LineOfWords.{option_rows}
+use Rattle.difi_cmd.proofs.LineLaws.{asked_behind, asked_numbers}
 use Rattle.difi_cmd.proofs.words.line_of.Goals as goal
 
 pub returns-in-Err-clause-usage : goal.returns-in-Err-clause-usage
 returns-in-Err-clause-usage c = λ is line asks.
-    let r = value_of_line _ line asks.behind in
-    c.in-Err.ensures.usage (cc) r.0 r.1
+    let own = asked_behind c.args.words.now c.in-Some.row.command (option_rows c.in-Some.row.options.now) line c.in-Some.ensures.found c.in-Some.ensures.options asks in
+    c.in-Err.ensures.usage (cc) _ own.1
 
-pub returns-in-None-clause-usage : goal.returns-in-None-clause-usage
-returns-in-None-clause-usage c = λ is line asks.
-    let r = value_of_line _ line asks.behind in
-    let same = one_value _ _ _ r.1 c.in-Ok.ensures.given in
-    c.in-None.ensures.none line.max_bytes (subst (λ (value : Option Text). Gives max_bytes_range (value_list value) line.max_bytes) same r.2)
+pub returns-clause-usage : goal.returns-clause-usage
+returns-clause-usage c = λ is line asks.
+    let own = asked_numbers c.args.words.now c.in-Some.row.command (option_rows c.in-Some.row.options.now) c.in-Ok.numbers.items line c.in-Some.ensures.found c.in-Some.ensures.options
+    c.in-Ok.ensures.given asks in
+    c.in-None.ensures.none line own.0 (own.1 ∙ sym c.deref.ensures.value)

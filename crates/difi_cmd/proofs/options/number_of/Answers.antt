@@ -1,5 +1,5 @@
 use Rattle.difi_cmd.proofs.Values.{value_parses}
-use Rattle.difi_cmd.proofs.words.number_of.Goals as goal
+use Rattle.difi_cmd.proofs.options.number_of.Goals as goal
 
 pub returns-then-is_value-clause-none : goal.returns-then-is_value-clause-none
 returns-then-is_value-clause-none c =

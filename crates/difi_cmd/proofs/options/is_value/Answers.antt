@@ -3,7 +3,7 @@ use Rattle.std.specs.Char.{is_ascii_digit}
 use Rattle.std.specs.List.{list_all}
 use Rattle.std.proofs.lemmas.Bool.Decides.{nat_tests}
 use Rattle.difi_cmd.proofs.Values.{value_test}
-use Rattle.difi_cmd.proofs.words.is_value.Goals as goal
+use Rattle.difi_cmd.proofs.options.is_value.Goals as goal
 
 pub returns-then-digits-le-MOST_DIGITS : goal.returns-then-digits-le-MOST_DIGITS
 returns-then-digits-le-MOST_DIGITS c =
