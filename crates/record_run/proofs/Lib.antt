@@ -3,3 +3,4 @@ pub mod Going
 pub mod Feeding
 pub mod Outcomes
 pub mod RecordReading
+pub mod TrialLaws

@@ -10,6 +10,8 @@ mod run;
 mod status;
 mod teller;
 mod transfer;
+#[cfg(test)]
+mod trial;
 
 pub use crate::intake::Intake;
 pub use crate::record::ReceivedFrame;
