@@ -1,6 +1,6 @@
 -- What the trial teller tells goes on from call to call.
 use Rattle.std.proofs.Common.{◌≡◌, ℕ, ◌+◌, ◌<◌, Bool, true, false, List, [], ◌∷◌, ◌++◌, refl, ap, ◌∙◌, append_assoc, append-nil, arith}
-use Rattle.record_run.specs.Tells.{Tells, GoesOn, Puts, PutsEnd, OwesNothing}
+use Rattle.record_run.specs.Tells.{Puts, PutsEnd, OwesNothing}
 use Rattle.record_run.specs.Trial.{Trial, frame_line, second_line, last_line, owed_line, frame_lines, all_lines, number_owed, trial_tells}
 
 -- the line that was owed was put

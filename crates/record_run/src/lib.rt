@@ -5,10 +5,14 @@
 mod intake;
 mod outgoing;
 mod reading;
+#[cfg(test)]
+mod reads_tests;
 mod record;
 mod run;
 mod status;
 mod teller;
+#[cfg(test)]
+mod tests;
 mod transfer;
 #[cfg(test)]
 mod trial;
