@@ -88,12 +88,17 @@ wrong_fed grammar bytes offset reads tells way taken frames wrong ready stands =
 
 -- ---- between two calls
 
+not_none : {H : Type 0} (head : Option H) (says : H) (X : Type 0) → head ≡ Some says → head ≡ None → X
+not_none None says X e f = cc
+not_none (Some other) says X e f = cc
+
 pub ready_more : {H F : Type 0} (bytes : List ℕ) (count : ℕ) (reads reads' : Reads H F) (tells : Tells H F) → IsMore bytes count reads reads'
     → reads'.given ≡ reads.given + count → IsReady reads tells → IsReady reads' tells
 ready_more bytes count reads reads' tells more given ready = record {
   open_ended = ready.open_ended;
   counted = omega (arith, ready.counted, given);
   idle = λ head e. ready.idle head (sym more.head ∙ e);
+  begun = λ e. ready.begun (sym more.head ∙ e);
   standing = (ready.standing.0 ++ bytes, (ready.standing.1.0, more.stands ready.standing.0 ready.standing.1.0 ready.standing.1.1));
 }
 
@@ -105,6 +110,7 @@ ready_head grammar bytes count reads reads' tells tells' read given keeps begun 
   open_ended = keeps.ended ∙ ready.open_ended;
   counted = omega (arith, ready.counted, given, keeps.count);
   idle = λ head e. (begun head e).1;
+  begun = λ e. not_none reads'.head read.says _ read.head e;
   standing = (ready.standing.0 ++ take count bytes, (ready.standing.1.0, read.stands ready.standing.0 ready.standing.1.0 ready.standing.1.1));
 }
 
@@ -115,6 +121,7 @@ ready_frame bytes count reads reads' tells tells' read given some one none ready
   open_ended = one.ended ∙ ready.open_ended;
   counted = omega (arith, ready.counted, given, one.count, some);
   idle = λ head e. none head;
+  begun = λ e. none;
   standing = (ready.standing.0 ++ take count bytes, (ready.standing.1.0 ++ read.is ∷ [], read.stands ready.standing.0 ready.standing.1.0 ready.standing.1.1));
 }
 

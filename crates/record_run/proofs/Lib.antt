@@ -5,3 +5,4 @@ pub mod Outcomes
 pub mod RecordReading
 pub mod Complete
 pub mod Retold
+pub mod TrialLaws

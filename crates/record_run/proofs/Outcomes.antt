@@ -118,15 +118,12 @@ begins behaviour reads way left most fresh begun idle = record {
   most = most;
   begun = fresh;
   clear = idle;
-  ready = record { open_ended = begun.open_ended; counted = omega (arith, begun.count); idle = λ head e. none reads.head head fresh.head e; standing = ([], ([], fresh.stands)) };
+  ready = record { open_ended = begun.open_ended; counted = omega (arith, begun.count); idle = λ head e. begun.idle head; begun = λ e. begun.idle; standing = ([], ([], fresh.stands)) };
   wants = refl;
   place = fresh.given;
   idle = idle;
   fed = fed_nothing reads behaviour.tells way [] [] fresh.stands;
-} where
-  none : (known : Option _) (head : _) → known ≡ None → known ≡ Some head → OwesNothing head behaviour.tells
-  none None head e f = cc
-  none (Some known) head e f = cc
+}
 
 -- what source and sink did
 abbrev pub moves_of : Option (List ℕ) → Option (List ℕ) → Way → Way → ℕ → ℕ → Moves

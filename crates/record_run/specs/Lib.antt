@@ -3,3 +3,4 @@ pub mod Outcome
 pub mod Status
 pub mod Progress
 pub mod Steps
+pub mod Trial

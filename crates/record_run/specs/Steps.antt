@@ -30,11 +30,12 @@ pub record IsPut {H F : Type 0} (old new : Tells H F) (way way' : Way) : Type 0 
   pub keeps : KeepsCount old new
   pub told : (head : H) → (text : List ℕ) × (GoesOn head [] text old new × Sends text way way')
 
--- between two calls the end has not come, no more frames were told than bytes given, and nothing is owed once the header is known
+-- between two calls the end has not come, no more frames were told than bytes given, and nothing is owed
 pub record IsReady {H F : Type 0} (reads : Reads H F) (tells : Tells H F) : Type 0 where
   pub open_ended : tells.ended ≡ false
   pub counted : tells.count ≤ reads.given
   pub idle : (head : H) → reads.head ≡ Some head → OwesNothing head tells
+  pub begun : reads.head ≡ None → (head : H) → OwesNothing head tells
   pub standing : IsStanding reads
 
 -- with the header, once it is known, the frames were told in the text; before, nothing was

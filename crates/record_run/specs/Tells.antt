@@ -46,7 +46,8 @@ pub record OwesNothing {H F : Type 0} (head : H) (tells : Tells H F) : Type 0 wh
   pub part : tells.part head [] []
   pub out : tells.ended ≡ true → tells.out head [] []
 
--- no frame was told of, and the end has not come
+-- no frame was told of, nothing is owed, and the end has not come
 pub record HasBegun {H F : Type 0} (tells : Tells H F) : Type 0 where
   pub count : tells.count ≡ 0
   pub open_ended : tells.ended ≡ false
+  pub idle : (head : H) → OwesNothing head tells

@@ -6,11 +6,17 @@ mod intake;
 mod options;
 mod outgoing;
 mod reading;
+#[cfg(test)]
+mod reads_tests;
 mod record;
 mod run;
 mod status;
 mod teller;
+#[cfg(test)]
+mod tests;
 mod transfer;
+#[cfg(test)]
+mod trial;
 
 pub use crate::intake::Intake;
 pub use crate::options::Options;

@@ -19,6 +19,7 @@ pub trait Teller<I: Intake> {
 
     /// Begins, with the header that the intake has read. `NoMemory` comes only where it takes memory.
     fn begin(&mut self, alloc: Global, intake: &I) -> Result<(), NoMemory>
+        requires idle { (head : I.Head) → OwesNothing head (tells self.old) }
         ensures memory { IsErr result → (tells self.old).wants ≡ true }
         ensures keeps { OnOk result (KeepsCount (tells self.old) (tells self.new)) }
         ensures goes { OnOk result ((head : I.Head) → (I.reads intake.now).head ≡ Some head →
