@@ -1,6 +1,7 @@
-ghost use Rattle.std.specs.Prelude.{◌≡◌, ◌≤ℤ◌, ◌^◌, pos, slice_index, Some};
+ghost use Rattle.std.specs.Prelude.{◌≡◌, ◌≤ℤ◌, ◌+◌, ◌^◌, pos, slice_index, Some};
+ghost use Rattle.vrt_fields.specs.Field.{place_of};
 ghost use Rattle.vrt_fields.specs.Format.{IsFormat};
-ghost use Rattle.vrt_fields.specs.declared.field.Field.TheVariants.{SampleRate};
+ghost use Rattle.vrt_fields.specs.declared.field.Field.TheVariants.{Format, SampleRate};
 ghost use Rattle.difi_context.specs.Context.{IsInGrammar, field_of};
 
 use crate::context::ContextRec;
@@ -27,7 +28,7 @@ impl ContextRec {
     /// The payload format of the samples.
     pub fn format(&self) -> PayloadFormat
         requires { IsInGrammar self.now }
-        ensures { IsFormat result (slice_index self.now.fields 17) (slice_index self.now.fields 18) }
+        ensures { IsFormat result (slice_index self.now.fields (place_of Format)) (slice_index self.now.fields (place_of Format + 1)) }
     {
         match PayloadFormat::read(self.fields[FORMAT_WORD], self.fields[FORMAT_WORD + 1]) {
             Ok(format) => format,

@@ -9,37 +9,15 @@ ghost use Rattle.release_form.specs.declared.shown.Shown.TheVariants.{Refused};
 use super::*;
 use sample_binder::{Reason, Run};
 use std::process::Abort;
+use test_records::BASE;
 use vrt_time::{Moment, Stamp};
 use vrt_words::{put_word, put_words};
 
 // 1,700,000,000 s.
 const START: u32 = 0x6553_F100;
 
-// The fields of a context: bandwidth 280,000 Hz, IF 70 MHz, RF 1,200 MHz, gain 10 dB, rate 350,000 Hz,
-// items of 16 bits.
-const BASE: [u32; 19] = [
-    0x0000_0064,
-    0x0000_0044,
-    0x5C00_0000,
-    0x0000_42C1,
-    0xD800_0000,
-    0x0004_7868,
-    0xC000_0000,
-    0,
-    0,
-    0,
-    0x0000_0500,
-    0x0000_0055,
-    0x7300_0000,
-    0,
-    0,
-    0,
-    0xC00C_0000,
-    0xA000_03CF,
-    0,
-];
-
-// The same at 2 Hz.
+// The fields of a context of 2 Hz: bandwidth 280,000 Hz, IF 70 MHz, RF 1,200 MHz, gain 10 dB, items of
+// 16 bits.
 const SLOW: [u32; 19] = [
     0x0000_0064,
     0x0000_0044,
@@ -385,12 +363,14 @@ fn the_second_run_of_a_packet_goes_both_ways(rt: HostRuntime) {
 
 #[test]
 fn a_run_bound_across_a_healed_gap_goes_both_ways(rt: HostRuntime) {
+    let mut fields = [0; 19];
+    fields.copy_from_slice(&BASE[8..]);
     let run = Run::Bound {
         stamp: stamp(0x6553_F101, 500_000_000_000),
         first: 0,
         number: 1,
         at: Moment::of(1_700_000_001_500_000_000_000),
-        fields: BASE,
+        fields,
         bits: 16,
     };
     let shown = Shown::Run {

@@ -53,7 +53,7 @@ module _ {T : Type 0} where
   unfolding accepted
   accepted-falling size h = fold-falling size [] h tt
 
-  take-held : (size : ℕ) (xs : List (Entry T)) → take (min size (length xs) - 0) xs ≡ take size xs
+  pub take-held : (size : ℕ) (xs : List (Entry T)) → take (min size (length xs) - 0) xs ≡ take size xs
   take-held size xs = grind (arith, common_steps)
 
   pub drop-held : (size : ℕ) (xs : List (Entry T)) → drop (min size (length xs) - 0) xs ≡ drop size xs

@@ -1,7 +1,6 @@
 -- How many data packets a binder keeps: those that its window holds, and those that wait.
-use Rattle.std.proofs.Common.{◌≡◌, ℕ, suc, ◌+◌, ◌-◌, ◌≤◌, min, ◌&&◌, ◌||◌, not, nat_lt, Bool, true, false, cond, List, [], ◌∷◌, ◌++◌, length, take, drop, map, Option, Some, None, Result, Ok, is_none, refl, sym, ap, ◌∙◌, subst, arith, length-append, length-drop}
+use Rattle.std.proofs.Common.{◌≡◌, ℕ, suc, ◌+◌, ◌≤◌, ◌&&◌, ◌||◌, not, nat_lt, Bool, true, false, cond, List, [], ◌∷◌, ◌++◌, length, drop, map, Option, Some, None, Result, Ok, is_none, refl, sym, ap, ◌∙◌, subst, arith, length-append, length-drop}
 use Rattle.std.proofs.lemmas.Bool.Decides.{nat_tests}
-use Rattle.std.proofs.lemmas.Grind.{common_steps}
 use Rattle.std.proofs.lemmas.List.{length-take-le}
 use Rattle.vrt_words.specs.Buffer.{Buffer}
 use Rattle.vrt_time.specs.Time.{TimeStamp}
@@ -11,7 +10,7 @@ use Rattle.reorder_window.specs.declared.arrival.Arrival.TheVariants as arrival
 use Rattle.reorder_window.specs.State.{Holding, StandsFor}
 use Rattle.reorder_window.specs.Window.{boundary, is_late, twin, in_place, accepted, number_held, held, released, releases, answer_above, answer_by, answer}
 use Rattle.reorder_window.proofs.OrderLemmas.{twin-take, length-in_place}
-use Rattle.reorder_window.proofs.WindowLemmas.{accepted-falling, accepted-more}
+use Rattle.reorder_window.proofs.WindowLemmas.{take-held, accepted-falling, accepted-more}
 use Rattle.context_timeline.specs.Line.{Line}
 use Rattle.sample_binder.specs.declared.turned.Turned.{Turned}
 use Rattle.sample_binder.specs.declared.out.Out.{Out}
@@ -57,16 +56,13 @@ module _ {T : Type 0} where
   by_taken same a None o after h = (refl, above_taken same a o after h)
   by_taken same a (Some stamp) o after h = late_taken same a (is_late (Some stamp) a) stamp o after h
 
-  take_held : (size : ℕ) (xs : List (Entry T)) → take (min size (length xs) - 0) xs ≡ take size xs
-  take_held size xs = grind (arith, common_steps)
-
   -- so it is accepted
   accepted_taken : (same : T → T → Bool) (size : ℕ) (arrivals : List (Entry T)) (a : Entry T) → IsTaken (answer same size arrivals a)
       → length (accepted size (arrivals ++ a ∷ [])) ≡ suc (length (accepted size arrivals))
   accepted_taken same size arrivals a h =
       let xs = accepted size arrivals in
       let t = by_taken same a (boundary size xs) (twin a (held size arrivals 0)) (released size (arrivals ++ a ∷ []) 0) h in
-      let alone : twin a xs ≡ None = sym (twin-take size a xs (accepted-falling size arrivals) t.0) ∙ ap (twin a) (sym (take_held size xs)) ∙ t.1 in
+      let alone : twin a xs ≡ None = sym (twin-take size a xs (accepted-falling size arrivals) t.0) ∙ ap (twin a) (sym (take-held size xs)) ∙ t.1 in
       let fresh : (not (is_late (boundary size xs) a) && is_none (twin a xs)) ≡ true = ap (λ b. not b && is_none (twin a xs)) t.0 ∙ ap is_none alone in
       ap length (accepted-more size arrivals a ∙ ap (λ b. cond b (in_place a xs) xs) fresh) ∙ length-in_place a xs
 

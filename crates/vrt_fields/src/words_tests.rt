@@ -1,11 +1,5 @@
 use super::*;
-
-// The words of the fields of a context: a bandwidth of 280,000 Hz, an IF of 70 MHz, an RF of 1,200
-// MHz, a gain of 10 dB, a rate of 350,000 Hz, and items of 16 bits.
-const WORDS: [u32; 19] = [
-    0x64, 0x44, 0x5C000000, 0x000042C1, 0xD8000000, 0x00047868, 0xC0000000, 0, 0, 0, 0x500, 0x55,
-    0x73000000, 0, 0, 0, 0xC00C0000, 0xA00003CF, 0,
-];
+use test_records::BASE;
 
 #[test]
 fn each_field_has_its_number_and_its_place(rt: HostRuntime) {
@@ -33,15 +27,17 @@ fn each_field_has_its_number_and_its_place(rt: HostRuntime) {
 
 #[test]
 fn each_field_has_its_value_among_the_words(rt: HostRuntime) {
-    assert_eq!(rt; value_in(&WORDS, Field::ReferencePoint), 0x64);
-    assert_eq!(rt; value_in(&WORDS, Field::Bandwidth), 280_000 << 20);
-    assert_eq!(rt; value_in(&WORDS, Field::IfReference), 70_000_000 << 20);
-    assert_eq!(rt; value_in(&WORDS, Field::RfReference), 1_200_000_000 << 20);
-    assert_eq!(rt; value_in(&WORDS, Field::Gain), 0x500);
-    assert_eq!(rt; value_in(&WORDS, Field::State), 0xC00C_0000);
-    assert_eq!(rt; value_in(&WORDS, Field::Format), 0xA000_03CF_0000_0000);
-    assert_eq!(rt; raw_rate(&WORDS), 350_000 << 20);
-    assert_eq!(rt; item_size_of(&WORDS), 16);
+    let mut words = [0; 19];
+    words.copy_from_slice(&BASE[8..]);
+    assert_eq!(rt; value_in(&words, Field::ReferencePoint), 0x64);
+    assert_eq!(rt; value_in(&words, Field::Bandwidth), 280_000 << 20);
+    assert_eq!(rt; value_in(&words, Field::IfReference), 70_000_000 << 20);
+    assert_eq!(rt; value_in(&words, Field::RfReference), 1_200_000_000 << 20);
+    assert_eq!(rt; value_in(&words, Field::Gain), 0x500);
+    assert_eq!(rt; value_in(&words, Field::State), 0xC00C_0000);
+    assert_eq!(rt; value_in(&words, Field::Format), 0xA000_03CF_0000_0000);
+    assert_eq!(rt; raw_rate(&words), 350_000 << 20);
+    assert_eq!(rt; item_size_of(&words), 16);
 }
 
 #[test]
