@@ -4,7 +4,7 @@ use Rattle.std.specs.Prelude.{count_by, if◌then◌else◌, Some, None}
 use Rattle.std.proofs.lemmas.List.Sums.{sum_by-append}
 use Rattle.replay_form.specs.FrameFields.{Frame}
 use Rattle.replay_form.specs.declared.record_head.RecordHead.{RecordHead}
-use Rattle.record_run.specs.Tells.{Puts, PutsEnd, OwesNothing}
+use Rattle.record_run.specs.Tells.{Puts, PutsEnd, IsSettled}
 use Rattle.difi_texts.specs.declared.lines.Listing.{Listing}
 use Rattle.difi_texts.specs.Lines.{Account, entry, entries, counts, summary, is_accepted}
 use Rattle.difi_cmd.specs.declared.report.Report.{Report}
@@ -88,11 +88,12 @@ ended_on head old new text text' open_ended ended listing put = record {
         plus_none : (n : ℕ) → n + 0 ≡ n
         plus_none n = omega arith
 
--- nothing is owed
-pub nothing_owed : (head : RecordHead) (report : Report) → OwesNothing head (told_by report)
-nothing_owed head report = record {
-  part = ([], (tt, refl));
-  out = λ ended. ([], (tt, sym (last ended)));
+-- nothing is ever owed
+pub settled : (report : Report) → IsSettled (told_by report)
+settled report = record {
+  owed = refl;
+  part = λ head. ([], (tt, refl));
+  out = λ ended head. ([], (tt, sym (last ended)));
 } where
   last : report.ended ≡ true → last_line report.frames report.accepted report.ended [] ≡ []
   last ended = ap (λ (b : Bool). if b then [] else counts (report.frames + length {A = Account} []) (report.accepted + count_by is_accepted [])) ended

@@ -35,8 +35,16 @@ pub fn difi_run<R: Threads + Sync, S: Source + Send, K: Sink + Send, G: Gate + S
 
     // Every other status has its cause in what the line does, with the bytes taken and the text written.
     ensures outcome { result ≢ Status.Usage → result ≢ Status.Memory → (line : Line) × (Asks words.now line × DoesLine result line
-        (record { left = S.left source.old; left_now = S.left source.new; held = K.held sink.old; held_now = K.held sink.new;
-        reads = S.faults source.old; reads_now = S.faults source.new; writes = K.faults sink.old; writes_now = K.faults sink.new })) }
+        (record {
+          left = S.left source.old;
+          left_now = S.left source.new;
+          held = K.held sink.old;
+          held_now = K.held sink.new;
+          reads = S.faults source.old;
+          reads_now = S.faults source.new;
+          writes = K.faults sink.old;
+          writes_now = K.faults sink.new;
+        })) }
 
     // Where no read and no write fails, the bytes decide, unless memory runs out.
     ensures complete { (line : Line) → Asks words.now line → ¬ Rose (S.faults source.old) (S.faults source.new) →

@@ -4,7 +4,7 @@ use Rattle.std.specs.Prelude.{Result, Option, Some, None, Ok, Err, ◌==◌, tru
 use Rattle.record_run.specs.declared.reading.Stop.{Stop}
 use Rattle.record_run.specs.declared.reading.Stop.TheVariants as stops
 use Rattle.replay_form.specs.Grammar.{Grammar, Reads, HasWhole, IsMore, IsHeadRead, IsFrameRead, IsWrong}
-use Rattle.record_run.specs.Tells.{Tells, GoesOn, KeepsCount, CountsOne, OwesNothing, PutsEnd}
+use Rattle.record_run.specs.Tells.{Tells, GoesOn, KeepsCount, CountsOne, IsSettled, PutsEnd}
 use Rattle.record_run.specs.Steps.{Way, Sends, IsReady, IsGoing, HeadStays, IsPut, IsEnd, IsFed, IsTold, IsStopped, IsFedAs, IsFedOnce}
 use Rattle.record_run.specs.Progress.{IsSent}
 use Rattle.record_run.proofs.Going.{goes_nowhere, sends_nothing, sends_on, sends_put, sends_further, going_on}
@@ -48,13 +48,13 @@ more_fed bytes count reads reads' tells way taken frames more stands = record {
 
 pub head_fed : {H F : Type 0} (grammar : Grammar H F) (bytes : List ℕ) (count : ℕ) (reads reads' : Reads H F) (tells tells' : Tells H F) (way : Way) (taken : List ℕ) (frames : List F)
     → IsHeadRead grammar bytes count reads reads' → reads.stands taken frames
-    → ((head : H) → reads'.head ≡ Some head → GoesOn head [] [] tells tells' × OwesNothing head tells')
+    → ((head : H) → reads'.head ≡ Some head → GoesOn head [] [] tells tells')
     → IsFed (take count bytes) reads reads' tells tells' way way taken frames
 head_fed grammar bytes count reads reads' tells tells' way taken frames read stands begun = record {
   later = [];
   text = [];
   stands = subst (reads'.stands (taken ++ take count bytes)) (sym (append-nil frames)) (read.stands taken frames stands);
-  going = subst (λ (h : Option _). IsGoing h [] [] tells tells') (sym read.head) (begun read.says read.head).0;
+  going = subst (λ (h : Option _). IsGoing h [] [] tells tells') (sym read.head) (begun read.says read.head);
   sends = sends_nothing way;
 }
 
@@ -81,47 +81,40 @@ wrong_fed grammar bytes offset reads tells way taken frames wrong ready stands =
     stays = head_stays reads.head reads.head refl;
     has = subst (λ fs. HasWhole grammar reads.head fs (taken ++ bytes)) (sym (append-nil frames)) (wrong.has taken frames stands);
     going = going_nowhere reads.head tells;
-    idle = ready.idle;
+    settled = ready.settled;
     sends = sends_nothing way;
   };
 }
 
 -- ---- between two calls
 
-not_none : {H : Type 0} (head : Option H) (says : H) (X : Type 0) → head ≡ Some says → head ≡ None → X
-not_none None says X e f = cc
-not_none (Some other) says X e f = cc
-
 pub ready_more : {H F : Type 0} (bytes : List ℕ) (count : ℕ) (reads reads' : Reads H F) (tells : Tells H F) → IsMore bytes count reads reads'
     → reads'.given ≡ reads.given + count → IsReady reads tells → IsReady reads' tells
 ready_more bytes count reads reads' tells more given ready = record {
   open_ended = ready.open_ended;
   counted = omega (arith, ready.counted, given);
-  idle = λ head e. ready.idle head (sym more.head ∙ e);
-  begun = λ e. ready.begun (sym more.head ∙ e);
+  settled = ready.settled;
   standing = (ready.standing.0 ++ bytes, (ready.standing.1.0, more.stands ready.standing.0 ready.standing.1.0 ready.standing.1.1));
 }
 
 pub ready_head : {H F : Type 0} (grammar : Grammar H F) (bytes : List ℕ) (count : ℕ) (reads reads' : Reads H F) (tells tells' : Tells H F) → IsHeadRead grammar bytes count reads reads'
     → reads'.given ≡ reads.given + count
-    → KeepsCount tells tells' → ((head : H) → reads'.head ≡ Some head → GoesOn head [] [] tells tells' × OwesNothing head tells')
+    → KeepsCount tells tells' → IsSettled tells'
     → IsReady reads tells → IsReady reads' tells'
-ready_head grammar bytes count reads reads' tells tells' read given keeps begun ready = record {
+ready_head grammar bytes count reads reads' tells tells' read given keeps settled ready = record {
   open_ended = keeps.ended ∙ ready.open_ended;
   counted = omega (arith, ready.counted, given, keeps.count);
-  idle = λ head e. (begun head e).1;
-  begun = λ e. not_none reads'.head read.says _ read.head e;
+  settled = settled;
   standing = (ready.standing.0 ++ take count bytes, (ready.standing.1.0, read.stands ready.standing.0 ready.standing.1.0 ready.standing.1.1));
 }
 
 pub ready_frame : {H F : Type 0} (bytes : List ℕ) (count : ℕ) (reads reads' : Reads H F) (tells tells' : Tells H F) → (read : IsFrameRead bytes count reads reads')
     → reads'.given ≡ reads.given + count → 0 < count
-    → CountsOne tells tells' → ((head : H) → OwesNothing head tells') → IsReady reads tells → IsReady reads' tells'
+    → CountsOne tells tells' → IsSettled tells' → IsReady reads tells → IsReady reads' tells'
 ready_frame bytes count reads reads' tells tells' read given some one none ready = record {
   open_ended = one.ended ∙ ready.open_ended;
   counted = omega (arith, ready.counted, given, one.count, some);
-  idle = λ head e. none head;
-  begun = λ e. none;
+  settled = none;
   standing = (ready.standing.0 ++ take count bytes, (ready.standing.1.0 ++ read.is ∷ [], read.stands ready.standing.0 ready.standing.1.0 ready.standing.1.1));
 }
 
@@ -167,7 +160,7 @@ told_on grammar front bytes a b s t u way way' way'' taken frames stays first se
   has = subst (λ fs. HasWhole grammar second.head fs (taken ++ (front ++ bytes))) (append_assoc frames first.later second.later)
       (subst (λ l. HasWhole grammar second.head ((frames ++ first.later) ++ second.later) l) (append_assoc taken front bytes) second.has);
   going = going_on b.head second.head first.later second.later first.text second.text s t u second.stays first.going second.going;
-  idle = second.idle;
+  settled = second.settled;
   sends = sends_on first.text second.text way way' way'' first.sends second.sends;
 }
 
@@ -222,14 +215,14 @@ ends_all stop = Err stop
 pub end_told : {H F : Type 0} (grammar : Grammar H F) (reads : Reads H F) (tells tells' tells'' : Tells H F) (way way' way'' : Way) (taken : List ℕ) (frames : List F)
     → (head : H) × (reads.head ≡ Some head) × grammar.whole head frames taken
     → ((head : H) → PutsEnd head way.waiting way'.waiting tells tells') → way' ≡ record way { waiting = way'.waiting }
-    → IsPut tells' tells'' way' way'' → ((head : H) → OwesNothing head tells'')
+    → IsPut tells' tells'' way' way'' → IsSettled tells''
     → (way''' : Way) → ((start : Option (List ℕ)) (before : ℕ) (all : List ℕ) → IsSent way''.failed start way''.held before way''.faults way''.waiting all
     → IsSent way'''.failed start way'''.held before way'''.faults way'''.waiting all)
     → IsEnd grammar reads tells way way''' taken frames
 end_told grammar reads tells tells' tells'' way way' way'' taken frames whole ends same put none way''' sent =
     let e = ends whole.0 in
     let p = put.told whole.0 in
-    let rest : tells'.out whole.0 [] p.0 = subst (tells'.out whole.0 []) (append-nil p.0) (p.1.0.out [] [] ((none whole.0).out (put.keeps.ended ∙ e.ended))) in record {
+    let rest : tells'.out whole.0 [] p.0 = subst (tells'.out whole.0 []) (append-nil p.0) (p.1.0.out [] [] (none.out (put.keeps.ended ∙ e.ended) whole.0)) in record {
       head = whole.0;
       known = whole.1;
       whole = whole.2;
@@ -260,7 +253,7 @@ told_further grammar bytes reads tells tells' way way' way'' taken frames sent t
   stays = told.stays;
   has = told.has;
   going = told.going;
-  idle = told.idle;
+  settled = told.settled;
   sends = sends_further told.text way way' way'' told.sends sent;
 }
 

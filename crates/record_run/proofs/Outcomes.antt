@@ -10,7 +10,7 @@ use Rattle.difi_io.specs.Faults.{Rose}
 use Rattle.record_run.specs.declared.status.Status.{Status}
 use Rattle.record_run.specs.declared.status.Status.TheVariants.{Done, Usage, ReadFault, WriteFault, Memory, BadRecord, TooLong}
 use Rattle.replay_form.specs.Grammar.{Grammar, Reads, HasWhole, IsFresh, AreReads}
-use Rattle.record_run.specs.Tells.{Tells, GoesOn, OwesNothing, HasBegun}
+use Rattle.record_run.specs.Tells.{Tells, GoesOn, IsSettled, HasBegun}
 use Rattle.record_run.specs.Outcome.{Behaviour, Moves, IsPart, IsOutput, IsOutcome}
 use Rattle.record_run.specs.Progress.{IsSent, IsCutOff}
 use Rattle.record_run.specs.Steps.{Way, Sends, IsReady, IsGoing, HeadStays, IsFed, IsTakenAs, IsEnd, IsEndedAs}
@@ -69,10 +69,10 @@ cut_from text way way' idle cut sends =
 -- ---- the text of the bytes
 
 pub part_told : {H F : Type 0} (behaviour : Behaviour H F) (head : Option H) (frames : List F) (bytes text : List ℕ) (tells : Tells H F)
-    → HasWhole behaviour.grammar head frames bytes → IsGoing head frames text behaviour.tells tells → ((known : H) → head ≡ Some known → OwesNothing known tells)
+    → HasWhole behaviour.grammar head frames bytes → IsGoing head frames text behaviour.tells tells → IsSettled tells
     → IsPart behaviour bytes text
-part_told behaviour None frames bytes text tells has going idle = inl (has.1, going.1.0)
-part_told behaviour (Some head) frames bytes text tells has going idle =
+part_told behaviour None frames bytes text tells has going settled = inl (has.1, going.1.0)
+part_told behaviour (Some head) frames bytes text tells has going settled =
     inr (
       head,
       (
@@ -80,7 +80,7 @@ part_told behaviour (Some head) frames bytes text tells has going idle =
         (
           has,
           subst (λ fs. behaviour.tells.part head fs text) (append-nil frames)
-              (subst (behaviour.tells.part head (frames ++ [])) (append-nil text) (going.part [] [] (idle head refl).part)),
+              (subst (behaviour.tells.part head (frames ++ [])) (append-nil text) (going.part [] [] (settled.part head))),
         ),
       ),
     )
@@ -118,7 +118,7 @@ begins behaviour reads way left most fresh begun idle = record {
   most = most;
   begun = fresh;
   clear = idle;
-  ready = record { open_ended = begun.open_ended; counted = omega (arith, begun.count); idle = λ head e. begun.idle head; begun = λ e. begun.idle; standing = ([], ([], fresh.stands)) };
+  ready = record { open_ended = begun.open_ended; counted = omega (arith, begun.count); settled = begun.settled; standing = ([], ([], fresh.stands)) };
   wants = refl;
   place = fresh.given;
   idle = idle;
@@ -141,7 +141,7 @@ moves_of left left_now way way_now reads reads_now = record {
 pub at_part : {H F : Type 0} (behaviour : Behaviour H F) (reads reads' : Reads H F) (tells' : Tells H F) (way way' : Way) (more : ℕ) (left left' : Option (List ℕ))
     → AreReads behaviour.grammar reads' → (at : IsAtRead behaviour reads reads' tells' way way' more left left') → IsPart behaviour at.taken at.fed.text
 at_part behaviour reads reads' tells' way way' more left left' laws at =
-    part_told behaviour reads'.head at.fed.later at.taken at.fed.text tells' (laws.has at.taken at.fed.later at.fed.stands) at.fed.going at.ready.idle
+    part_told behaviour reads'.head at.fed.later at.taken at.fed.text tells' (laws.has at.taken at.fed.later at.fed.stands) at.fed.going at.ready.settled
 
 -- a read failed
 pub read_failed : {H F : Type 0} (behaviour : Behaviour H F) (reads reads' : Reads H F) (tells' : Tells H F) (way way' : Way) (more : ℕ) (left left' left'' : Option (List ℕ)) (before now : ℕ)
@@ -193,7 +193,7 @@ module _ {H F : Type 0} (behaviour : Behaviour H F) (reads reads' reads'' : Read
         cause = record {
           bad = inl (subst (λ l. behaviour.grammar.wrong l offset) (sym are_judged) told.wrong);
           part = subst (λ l. IsPart behaviour l all.text) (sym are_judged)
-              (part_told behaviour all.head all.later (at.taken ++ take (min count more) piece) all.text tells'' all.has all.going all.idle);
+              (part_told behaviour all.head all.later (at.taken ++ take (min count more) piece) all.text tells'' all.has all.going all.settled);
         };
       }
   stopped WriteFault before now told sound cut none kept memory =
@@ -208,7 +208,7 @@ module _ {H F : Type 0} (behaviour : Behaviour H F) (reads reads' reads'' : Read
           rose = off.1.1.1;
           all = all.text;
           so_far = inl (subst (λ l. IsPart behaviour l all.text) (sym are_judged)
-              (part_told behaviour all.head all.later (at.taken ++ take (min count more) piece) all.text tells'' all.has all.going all.idle));
+              (part_told behaviour all.head all.later (at.taken ++ take (min count more) piece) all.text tells'' all.has all.going all.settled));
           number = off.0;
           front = refl;
         };
@@ -259,7 +259,7 @@ module _ {H F : Type 0} (behaviour : Behaviour H F) (reads reads' reads'' : Read
             sound = subst behaviour.grammar.sound (sym are_judged) (laws.sound (at.taken ++ take (min count more) piece) all.later all.stands);
           };
           part = subst (λ l. IsPart behaviour l all.text) (sym are_judged)
-              (part_told behaviour reads''.head all.later (at.taken ++ take (min count more) piece) all.text tells'' (laws.has (at.taken ++ take (min count more) piece) all.later all.stands) all.going ready.idle);
+              (part_told behaviour reads''.head all.later (at.taken ++ take (min count more) piece) all.text tells'' (laws.has (at.taken ++ take (min count more) piece) all.later all.stands) all.going ready.settled);
         };
       }
 

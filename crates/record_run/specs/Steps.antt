@@ -6,7 +6,7 @@ use Rattle.record_run.specs.declared.reading.Stop.{Stop}
 use Rattle.record_run.specs.declared.reading.Stop.TheVariants as stops
 use Rattle.record_run.specs.declared.outgoing.Outgoing.{Outgoing}
 use Rattle.replay_form.specs.Grammar.{Grammar, Reads, IsStanding, HasWhole}
-use Rattle.record_run.specs.Tells.{Tells, GoesOn, KeepsCount, OwesNothing}
+use Rattle.record_run.specs.Tells.{Tells, GoesOn, KeepsCount, IsSettled}
 use Rattle.record_run.specs.Progress.{IsSent}
 
 -- what waits to be written, whether a write failed, and what the sink holds and counts
@@ -34,8 +34,7 @@ pub record IsPut {H F : Type 0} (old new : Tells H F) (way way' : Way) : Type 0 
 pub record IsReady {H F : Type 0} (reads : Reads H F) (tells : Tells H F) : Type 0 where
   pub open_ended : tells.ended ≡ false
   pub counted : tells.count ≤ reads.given
-  pub idle : (head : H) → reads.head ≡ Some head → OwesNothing head tells
-  pub begun : reads.head ≡ None → (head : H) → OwesNothing head tells
+  pub settled : IsSettled tells
   pub standing : IsStanding reads
 
 -- with the header, once it is known, the frames were told in the text; before, nothing was
@@ -64,7 +63,7 @@ pub record IsTold {H F : Type 0} (grammar : Grammar H F) (bytes : List ℕ) (rea
   pub stays : HeadStays reads.head head
   pub has : HasWhole grammar head (frames ++ later) (taken ++ bytes)
   pub going : IsGoing head later text tells tells'
-  pub idle : (known : H) → head ≡ Some known → OwesNothing known tells'
+  pub settled : IsSettled tells'
   pub sends : Sends text way way'
 
 -- since a field is wrong;

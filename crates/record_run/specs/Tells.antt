@@ -41,13 +41,14 @@ pub record PutsEnd {H F : Type 0} (head : H) (waiting waiting' : List ℕ) (old 
   pub out : (more : List ℕ) → new.out head [] more → old.out head [] (text ++ more)
   pub ended : new.ended ≡ true
 
--- nothing is owed
-pub record OwesNothing {H F : Type 0} (head : H) (tells : Tells H F) : Type 0 where
-  pub part : tells.part head [] []
-  pub out : tells.ended ≡ true → tells.out head [] []
+-- nothing is owed: of no more frames nothing more is told, and behind the end nothing
+pub record IsSettled {H F : Type 0} (tells : Tells H F) : Type 0 where
+  pub owed : tells.owed ≡ 0
+  pub part : (head : H) → tells.part head [] []
+  pub out : tells.ended ≡ true → (head : H) → tells.out head [] []
 
 -- no frame was told of, nothing is owed, and the end has not come
 pub record HasBegun {H F : Type 0} (tells : Tells H F) : Type 0 where
   pub count : tells.count ≡ 0
   pub open_ended : tells.ended ≡ false
-  pub idle : (head : H) → OwesNothing head tells
+  pub settled : IsSettled tells

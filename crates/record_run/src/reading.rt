@@ -1,5 +1,5 @@
 ghost use Rattle.std.specs.Prelude.{◌≡◌, ◌+◌, ◌<◌, ◌≤◌, ◌^◌, ◌++◌, ◌∷◌, ℕ, List, [], None, Some, Err, true, false, length, take, drop, OnOk, IfOk};
-ghost use Rattle.record_run.specs.Tells.{GoesOn, CountsOne, OwesNothing};
+ghost use Rattle.record_run.specs.Tells.{GoesOn, CountsOne, IsSettled};
 ghost use Rattle.record_run.specs.Steps.{Way, way_of, Sends, IsPut, IsReady, HeadStays, IsFedAs, IsFedOnce};
 
 use crate::intake::Intake;
@@ -109,10 +109,11 @@ fn tell_frame<I: Intake, T: Teller<I>, K: Sink>(
     requires room { length out.old.text < 65536 }
     requires count { (T.tells teller.old).count + 1 < 2 ^ 63 }
     requires open { (T.tells teller.old).ended ≡ false }
+    requires settled { IsSettled (T.tells teller.old) }
     requires whole { (head : I.Head) × (frame : I.Frame) × ((I.reads intake.now).head ≡ Some head) × ((I.reads intake.now).frame ≡ Some frame) }
     ensures room { length out.new.text < 65536 }
     ensures counts { CountsOne (T.tells teller.old) (T.tells teller.new) }
-    ensures none { (head : I.Head) → OwesNothing head (T.tells teller.new) }
+    ensures settled { IsSettled (T.tells teller.new) }
     ensures told { (head : I.Head) (frame : I.Frame) → (I.reads intake.now).head ≡ Some head → (I.reads intake.now).frame ≡ Some frame →
         (text : List ℕ) × (GoesOn head (frame ∷ []) text (T.tells teller.old) (T.tells teller.new)
         × Sends text (way_of out.old (K.held sink.old) (K.faults sink.old)) (way_of out.new (K.held sink.new) (K.faults sink.new))) }
@@ -138,7 +139,7 @@ pub(crate) fn settle<I: Intake, T: Teller<I>, K: Sink>(
     sink: &mut K,
 )
     ensures room { length out.new.text < 65536 }
-    ensures none { (head : I.Head) → OwesNothing head (T.tells teller.new) }
+    ensures settled { IsSettled (T.tells teller.new) }
     ensures put { IsPut (T.tells teller.old) (T.tells teller.new)
         (way_of out.old (K.held sink.old) (K.faults sink.old)) (way_of out.new (K.held sink.new) (K.faults sink.new)) }
 {

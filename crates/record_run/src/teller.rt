@@ -1,5 +1,5 @@
 ghost use Rattle.std.specs.Prelude.{◌≡◌, ◌+◌, ◌<◌, ◌≤◌, ◌^◌, [], ◌∷◌, Some, true, false, length, IsTrue, IsErr, OnOk};
-ghost use Rattle.record_run.specs.Tells.{Tells, GoesOn, KeepsCount, CountsOne, Puts, PutsEnd, OwesNothing};
+ghost use Rattle.record_run.specs.Tells.{Tells, GoesOn, KeepsCount, CountsOne, Puts, PutsEnd, IsSettled};
 
 use crate::intake::Intake;
 use std::alloc::Global;
@@ -19,17 +19,19 @@ pub trait Teller<I: Intake> {
 
     /// Begins, with the header that the intake has read. `NoMemory` comes only where it takes memory.
     fn begin(&mut self, alloc: Global, intake: &I) -> Result<(), NoMemory>
-        requires idle { (head : I.Head) → OwesNothing head (tells self.old) }
+        requires settled { IsSettled (tells self.old) }
         ensures memory { IsErr result → (tells self.old).wants ≡ true }
         ensures keeps { OnOk result (KeepsCount (tells self.old) (tells self.new)) }
         ensures goes { OnOk result ((head : I.Head) → (I.reads intake.now).head ≡ Some head →
-            GoesOn head [] [] (tells self.old) (tells self.new) × OwesNothing head (tells self.new)) };
+            GoesOn head [] [] (tells self.old) (tells self.new)) }
+        ensures settled { OnOk result (IsSettled (tells self.new)) };
 
     /// Tells of the frame that the intake made whole.
     fn frame(&mut self, alloc: Global, intake: &I, out: &mut TextBuffer)
         requires room { length out.old < 65536 }
         requires count { (tells self.old).count + 1 < 2 ^ 63 }
         requires open { (tells self.old).ended ≡ false }
+        requires settled { IsSettled (tells self.old) }
         requires whole { (head : I.Head) × (frame : I.Frame) × ((I.reads intake.now).head ≡ Some head) × ((I.reads intake.now).frame ≡ Some frame) }
         ensures counts { CountsOne (tells self.old) (tells self.new) }
         ensures told { (head : I.Head) (frame : I.Frame) → (I.reads intake.now).head ≡ Some head → (I.reads intake.now).frame ≡ Some frame →
@@ -39,6 +41,7 @@ pub trait Teller<I: Intake> {
     fn end(&mut self, alloc: Global, out: &mut TextBuffer)
         requires room { length out.old < 65536 }
         requires open { (tells self.old).ended ≡ false }
+        requires settled { IsSettled (tells self.old) }
         ensures told { (head : I.Head) → PutsEnd head out.old out.new (tells self.old) (tells self.new) };
 
     /// Puts something that is owed, and tells whether there was something.
@@ -48,5 +51,5 @@ pub trait Teller<I: Intake> {
         ensures told { (head : I.Head) → Puts head [] out.old out.new (tells self.old) (tells self.new) }
         ensures less { IsTrue result → (tells self.new).owed < (tells self.old).owed }
         ensures room { result ≡ false → length out.new ≤ length out.old }
-        ensures none { result ≡ false → (head : I.Head) → OwesNothing head (tells self.new) };
+        ensures none { result ≡ false → IsSettled (tells self.new) };
 }

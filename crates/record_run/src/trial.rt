@@ -108,14 +108,12 @@ impl<I: Intake> Teller<I> for TrialTeller {
     }
 
     fn frame(&mut self, _alloc: Global, _intake: &I, out: &mut TextBuffer) {
-        self.put_owed(out);
         self.told += 1;
         put_number(out, b"frame ", self.told);
         self.owes = true;
     }
 
-    fn end(&mut self, _alloc: Global, out: &mut TextBuffer) {
-        self.put_owed(out);
+    fn end(&mut self, _alloc: Global, _out: &mut TextBuffer) {
         self.ended = true;
         self.owes = true;
     }
