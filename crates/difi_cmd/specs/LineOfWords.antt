@@ -165,10 +165,6 @@ pub record Asks {A : Type 0} (words : List (String A)) (line : Line) : Type 0 wh
   pub behind : GiveNumbers (row_of (command_of line)).options (drop 1 (map string_bytes words))
       (numbers_of line)
 
--- the words are a line of the program
-abbrev pub IsLine : {A : Type 0} → List (String A) → Type 0
-IsLine words = (line : Line) × Asks words line
-
 -- ---- the parts of the reading
 
 -- a row as it stands in the code

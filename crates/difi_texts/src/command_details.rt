@@ -10,12 +10,12 @@ ghost use Rattle.difi_texts.specs.CommandDetails.{response_line, response_lines,
 
 use crate::details::{push_common, push_field_line};
 use crate::fields::all_fields;
-use text_buffer::TextBuffer;
 use ack_codec::{Ack, AckReport, AckState, Responses};
 use cam_field::{Cam, Ident};
 use command_codec::{Cancel, Control};
 use command_prologue::CommandPrologue;
 use std::alloc::Global;
+use text_buffer::TextBuffer;
 use vrt_fields::{Field, FieldSet};
 use vrt_words::bits_of;
 

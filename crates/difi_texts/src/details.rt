@@ -13,12 +13,12 @@ ghost use Rattle.difi_texts.specs.Details.{changes, field_line, data_details, co
 use crate::command_details::{push_ack, push_cancel, push_control};
 use crate::fields::all_fields;
 use crate::lines::Listing;
-use text_buffer::TextBuffer;
 use difi_context::ContextRec;
 use difi_data::DataRec;
 use difi_packet::Packet;
 use difi_version::VersionRec;
 use std::alloc::Global;
+use text_buffer::TextBuffer;
 use vrt_fields::Field;
 use vrt_header::Prologue;
 use vrt_words::bits_of;

@@ -5,8 +5,8 @@ ghost use Rattle.difi_texts.specs.Accounts.{accepted};
 ghost use Rattle.difi_texts.specs.Lines.{acceptance, line, outcome, counts};
 
 use crate::frame_words::FrameWords;
-use text_buffer::TextBuffer;
 use difi_packet::{Packet, PacketKind, kind_and_stream};
+use text_buffer::TextBuffer;
 
 /// What is told of the frames of a record.
 #[derive(Clone, Copy, Debug, PartialEq, Eq)]
