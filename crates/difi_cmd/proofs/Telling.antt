@@ -1,10 +1,10 @@
 -- What check and show tell of one frame more, and of the end.
-use Rattle.std.proofs.Common.{◌≡◌, ℕ, ◌+◌, Bool, true, false, List, [], ◌∷◌, ◌++◌, length, refl, sym, ap, ◌∙◌, subst, append_assoc, append-nil, cond, arith}
+use Rattle.std.proofs.Common.{◌≡◌, ℕ, ◌+◌, Bool, true, false, List, [], ◌∷◌, ◌++◌, length, refl, sym, ap, ◌∙◌, subst, append_assoc, cond, arith}
 use Rattle.std.specs.Prelude.{count_by, if◌then◌else◌, Some, None}
 use Rattle.std.proofs.lemmas.List.Sums.{sum_by-append}
 use Rattle.replay_form.specs.FrameFields.{Frame}
 use Rattle.replay_form.specs.declared.record_head.RecordHead.{RecordHead}
-use Rattle.record_run.specs.Tells.{Puts, PutsEnd, IsSettled}
+use Rattle.record_run.specs.Tells.{Puts}
 use Rattle.difi_texts.specs.declared.lines.Listing.{Listing}
 use Rattle.difi_texts.specs.Lines.{Account, entry, entries, counts, summary, is_accepted}
 use Rattle.difi_cmd.specs.declared.report.Report.{Report}
@@ -56,47 +56,6 @@ noted_on head frame old new text text' account is noted =
         );
       };
     }
-
-no_accounts : (listing : Listing) (head : RecordHead) (accounts : List Account) → AreAccounts listing head [] accounts → accounts ≡ []
-no_accounts listing head [] h = refl
-no_accounts listing head (a ∷ accounts) h = absurd h
-
--- the last line was put
-pub ended_on : (head : RecordHead) (old new : Report) (text text' : List ℕ) → old.ended ≡ false → new.ended ≡ true → new.listing ≡ old.listing
-    → text' ≡ text ++ counts old.frames old.accepted → PutsEnd head text text' (told_by old) (told_by new)
-ended_on head old new text text' open_ended ended listing put = record {
-  text = counts old.frames old.accepted;
-  put = put;
-  out = λ more p.
-      let none = no_accounts new.listing head p.0 p.1.0 in
-      let nothing : more ≡ [] = p.1.1 ∙ ap (λ l. entries (new.frames + 1) l ++ last_line new.frames new.accepted new.ended l) none ∙ nothing_last in (
-        [],
-        (
-          tt,
-          ap (λ l. counts old.frames old.accepted ++ l) nothing ∙ append-nil (counts old.frames old.accepted) ∙ sym whole_last,
-        ),
-      );
-  ended = ended;
-} where
-  nothing_last : last_line new.frames new.accepted new.ended [] ≡ []
-  nothing_last = ap (λ (b : Bool). if b then [] else counts (new.frames + length {A = Account} []) (new.accepted + count_by is_accepted [])) ended
-
-  whole_last : last_line old.frames old.accepted old.ended [] ≡ counts old.frames old.accepted
-  whole_last =
-      ap (λ (b : Bool). if b then [] else counts (old.frames + length {A = Account} []) (old.accepted + count_by is_accepted [])) open_ended
-      ∙ ap (λ n. counts n (old.accepted + 0)) (plus_none old.frames) ∙ ap (counts old.frames) (plus_none old.accepted) where
-        plus_none : (n : ℕ) → n + 0 ≡ n
-        plus_none n = omega arith
-
--- nothing is ever owed
-pub settled : (report : Report) → IsSettled (told_by report)
-settled report = record {
-  owed = refl;
-  part = λ head. ([], (tt, refl));
-  out = λ ended head. ([], (tt, sym (last ended)));
-} where
-  last : report.ended ≡ true → last_line report.frames report.accepted report.ended [] ≡ []
-  last ended = ap (λ (b : Bool). if b then [] else counts (report.frames + length {A = Account} []) (report.accepted + count_by is_accepted [])) ended
 
 -- ---- what the reader lends
 

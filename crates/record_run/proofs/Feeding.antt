@@ -1,10 +1,10 @@
 -- Bytes that are fed, and what is told of them.
-use Rattle.std.proofs.Common.{◌≡◌, ℕ, ◌+◌, ◌<◌, ◌≤◌, List, [], ◌∷◌, ◌++◌, length, take, drop, refl, sym, ap, ◌∙◌, subst, append_assoc, append-nil, length-append, take-append-drop, take_all, arith}
+use Rattle.std.proofs.Common.{◌≡◌, ℕ, ◌<◌, ◌≤◌, List, [], ◌∷◌, ◌++◌, length, take, drop, refl, sym, ap, ◌∙◌, subst, append_assoc, append-nil, length-append, take-append-drop, take_all, arith}
 use Rattle.std.specs.Prelude.{Result, Option, Some, None, Ok, Err, ◌==◌, true, false}
 use Rattle.record_run.specs.declared.reading.Stop.{Stop}
 use Rattle.record_run.specs.declared.reading.Stop.TheVariants as stops
 use Rattle.replay_form.specs.Grammar.{Grammar, Reads, HasWhole, IsMore, IsHeadRead, IsFrameRead, IsWrong}
-use Rattle.record_run.specs.Tells.{Tells, GoesOn, KeepsCount, CountsOne, IsSettled, PutsEnd}
+use Rattle.record_run.specs.Tells.{Tells, GoesOn, IsSettled, PutsEnd}
 use Rattle.record_run.specs.Steps.{Way, Sends, IsReady, IsGoing, HeadStays, IsPut, IsEnd, IsFed, IsTold, IsStopped, IsFedAs, IsFedOnce}
 use Rattle.record_run.specs.Progress.{IsSent}
 use Rattle.record_run.proofs.Going.{goes_nowhere, sends_nothing, sends_on, sends_put, sends_further, going_on}
@@ -12,10 +12,6 @@ use Rattle.record_run.proofs.Going.{goes_nowhere, sends_nothing, sends_on, sends
 pub head_stays : {H : Type 0} (old new : Option H) → new ≡ old → HeadStays old new
 head_stays None new e = tt
 head_stays (Some head) new e = e
-
-pub head_first : {H : Type 0} (old new : Option H) → old ≡ None → HeadStays old new
-head_first None new e = tt
-head_first (Some head) new e = cc
 
 pub stays_on : {H : Type 0} (a b c : Option H) → HeadStays a b → HeadStays b c → HeadStays a c
 stays_on None b c p q = tt
@@ -87,36 +83,6 @@ wrong_fed grammar bytes offset reads tells way taken frames wrong ready stands =
 }
 
 -- ---- between two calls
-
-pub ready_more : {H F : Type 0} (bytes : List ℕ) (count : ℕ) (reads reads' : Reads H F) (tells : Tells H F) → IsMore bytes count reads reads'
-    → reads'.given ≡ reads.given + count → IsReady reads tells → IsReady reads' tells
-ready_more bytes count reads reads' tells more given ready = record {
-  open_ended = ready.open_ended;
-  counted = omega (arith, ready.counted, given);
-  settled = ready.settled;
-  standing = (ready.standing.0 ++ bytes, (ready.standing.1.0, more.stands ready.standing.0 ready.standing.1.0 ready.standing.1.1));
-}
-
-pub ready_head : {H F : Type 0} (grammar : Grammar H F) (bytes : List ℕ) (count : ℕ) (reads reads' : Reads H F) (tells tells' : Tells H F) → IsHeadRead grammar bytes count reads reads'
-    → reads'.given ≡ reads.given + count
-    → KeepsCount tells tells' → IsSettled tells'
-    → IsReady reads tells → IsReady reads' tells'
-ready_head grammar bytes count reads reads' tells tells' read given keeps settled ready = record {
-  open_ended = keeps.ended ∙ ready.open_ended;
-  counted = omega (arith, ready.counted, given, keeps.count);
-  settled = settled;
-  standing = (ready.standing.0 ++ take count bytes, (ready.standing.1.0, read.stands ready.standing.0 ready.standing.1.0 ready.standing.1.1));
-}
-
-pub ready_frame : {H F : Type 0} (bytes : List ℕ) (count : ℕ) (reads reads' : Reads H F) (tells tells' : Tells H F) → (read : IsFrameRead bytes count reads reads')
-    → reads'.given ≡ reads.given + count → 0 < count
-    → CountsOne tells tells' → IsSettled tells' → IsReady reads tells → IsReady reads' tells'
-ready_frame bytes count reads reads' tells tells' read given some one none ready = record {
-  open_ended = one.ended ∙ ready.open_ended;
-  counted = omega (arith, ready.counted, given, one.count, some);
-  settled = none;
-  standing = (ready.standing.0 ++ take count bytes, (ready.standing.1.0 ++ read.is ∷ [], read.stands ready.standing.0 ready.standing.1.0 ready.standing.1.1));
-}
 
 -- ---- one call behind others
 

@@ -31,12 +31,6 @@ pub sends_put : (text : List ℕ) (failed : _) (waiting waiting' : List ℕ) (he
 sends_put text failed waiting waiting' held faults is = λ start before all s.
     subst (λ l. IsSent failed start held before faults l (all ++ text)) (sym is) (sent_more failed start held before faults waiting all text s)
 
--- what waits was sent, or some of it
-pub sends_sent : (old new : Way) → ((start : Option (List ℕ)) (before : ℕ) (text : List ℕ) → IsSent old.failed start old.held before old.faults old.waiting text
-    → IsSent new.failed start new.held before new.faults new.waiting text) → Sends [] old new
-sends_sent old new sent = λ start before all s.
-    subst (IsSent new.failed start new.held before new.faults new.waiting) (sym (append-nil all)) (sent start before all s)
-
 pub going_on : {H F : Type 0} (first second : Option H) (fs gs : List F) (text more : List ℕ) (a b c : Tells H F) → HeadStays first second
     → IsGoing first fs text a b → IsGoing second gs more b c → IsGoing second (fs ++ gs) (text ++ more) a c
 going_on None None fs gs text more a b c stays p q =

@@ -5,4 +5,3 @@ pub mod Outcomes
 pub mod RecordReading
 pub mod Complete
 pub mod Retold
-pub mod TrialLaws

@@ -336,17 +336,6 @@ module _ {H F : Type 0} (behaviour : Behaviour H F) (reads reads' reads'' : Read
     over Memory e sound cut = absurd e
     over TooLong e sound cut = absurd e
 
--- memory ran out before anything was taken
-pub none_begun : {H F : Type 0} (behaviour : Behaviour H F) (left : Option (List ℕ)) (way : Way) (before : ℕ) → IsOutcome Memory behaviour (moves_of left left way way before before)
-none_begun behaviour left way before = record {
-  bytes = [];
-  taken = Consumes-nil left;
-  few = omega arith;
-  text = [];
-  written = Appends-nil way.held;
-  cause = record { reads = refl; writes = refl; taken = inl refl; none = refl };
-}
-
 abbrev pub ends_with : Status → Result Unit Status
 ends_with status = Err status
 

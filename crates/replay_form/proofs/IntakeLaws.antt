@@ -1,21 +1,19 @@
 -- The reader of a record is an intake.
-use Rattle.std.proofs.Common.{◌≡◌, ℕ, ◌+◌, inl, inr, Bool, true, false, List, ◌++◌, length, take, Option, Some, None, refl, sym, ap, ◌∙◌, subst, take_all, length-append, arith}
+use Rattle.std.proofs.Common.{◌≡◌, ℕ, inl, inr, Bool, true, false, List, ◌++◌, take, Option, Some, None, refl, sym, ap, ◌∙◌, subst, take_all, arith}
 use Rattle.std.specs.Prelude.{if◌then◌else◌}
-use Rattle.std.proofs.lemmas.List.{length-take-le}
 use Rattle.replay_form.specs.FrameFields.{Frame, IsFrameWrongAt}
 use Rattle.replay_form.specs.HeadFields.{IsHeadPart, IsHeadWrongAt}
 use Rattle.replay_form.specs.Head.{IsHead}
-use Rattle.replay_form.specs.Reading.{Reading, begun, held_frame, frames_after, StandsWith, StandsFor, IsStep, IsFailed, IsNewFault, IsUnfinished, IsFinished}
-use Rattle.replay_form.specs.Reading.{IsFresh as IsFreshReading}
-use Rattle.replay_form.specs.Record.{IsRecord, IsRecordWrongAt, EndsInside}
+use Rattle.replay_form.specs.Reading.{Reading, begun, held_frame, frames_after, StandsWith, StandsFor, IsStep, IsFailed, IsNewFault}
+use Rattle.replay_form.specs.Record.{IsRecordWrongAt}
 use Rattle.replay_form.specs.Verdict.{HasNoFault}
 use Rattle.replay_form.specs.declared.event.Event.{Event}
 use Rattle.replay_form.specs.declared.event.Event.TheVariants as events
 use Rattle.replay_form.specs.declared.event.RecordFault.{RecordFault}
 use Rattle.replay_form.specs.declared.record_head.RecordHead.{RecordHead}
 use Rattle.replay_form.proofs.RecordLaws.{cut-append, record_wrong-append}
-use Rattle.replay_form.proofs.ReadingLaws.{sound_stands, step_sound, not_both, ends_early, fresh_stands}
-use Rattle.replay_form.specs.Grammar.{HasWhole, IsWrong, IsLawful, AreReads, IsFresh}
+use Rattle.replay_form.proofs.ReadingLaws.{sound_stands, step_sound, not_both}
+use Rattle.replay_form.specs.Grammar.{HasWhole, IsWrong, IsLawful, AreReads}
 use Rattle.replay_form.specs.Grammar.{IsStep as IsIntakeStep}
 use Rattle.replay_form.specs.RecordGrammar.{record_grammar, record_reads}
 
@@ -58,19 +56,6 @@ pub record_lawful : IsLawful record_grammar
 record_lawful = record { stays = λ bytes more offset w. (w.0, record_wrong-append w.0 bytes more offset w.1) }
 
 -- ---- one call
-
-front_given : (old : Reading) (piece : List ℕ) (count : ℕ) (event : Event) (new : Reading) (taken : List ℕ) (frames : List Frame) → IsStep old piece count event new → StandsFor old taken frames
-    → new.start + length (begun new) ≡ old.start + length (begun old) + count
-front_given old piece count events.More new taken frames step stands =
-    ap (λ (r : Reading). r.start + length (begun r)) step.after ∙ omega (arith, step.all, length-append (begun old) piece)
-front_given old piece count events.Frame new taken frames step stands =
-    ap (λ (r : Reading). r.start + length (begun r)) step.after ∙ omega (arith, length-append (begun old) (take count piece), length-take-le count piece step.few)
-front_given old piece count events.Head new taken frames step stands =
-    elim (sound_stands old taken frames step.sound stands) [
-      | inl b ↦ ap (λ (r : Reading). r.start + length (begun r)) step.after
-          ∙ omega (arith, length-append (begun old) (take count piece), length-take-le count piece step.few, b.start, ap length b.bytes)
-      | inr g ↦ not_both old.started g.started step.first
-    ]
 
 pub intake_step : (old : Reading) (piece : List ℕ) (count : ℕ) (event : Event) (new : Reading) → IsStep old piece count event new
     → ((taken : List ℕ) (frames : List Frame) → StandsFor old taken frames → StandsFor new (taken ++ take count piece) (frames_after event frames new))
@@ -141,23 +126,3 @@ intake_wrong old piece offset new fails stands = record {
 }
 
 -- ---- the end
-
-pub whole_end : (reading : Reading) (taken : List ℕ) (frames : List Frame) → IsFinished reading → IsRecord reading.head frames taken
-    → (head : RecordHead) × ((record_reads reading).head ≡ Some head) × IsRecord head frames taken
-whole_end reading taken frames finished is = (reading.head, known reading.started reading.head finished.started, is)
-
-early_end : (fault : Option RecordFault) (reading : Reading) (offset : ℕ) (taken : List ℕ) (frames : List Frame) → fault ≡ None → IsUnfinished fault reading offset
-    → StandsWith fault reading taken frames → EndsInside taken × (offset ≡ length taken)
-early_end None reading offset taken frames e ends stands = ends_early reading taken frames offset ends stands
-early_end (Some fault) reading offset taken frames e ends stands = cc
-
-pub intake_early : (reading : Reading) (offset : ℕ) (taken : List ℕ) (frames : List Frame) → IsUnfinished reading.fault reading offset → (record_reads reading).stands taken frames
-    → EndsInside taken × (offset ≡ length taken)
-intake_early reading offset taken frames ends stands = early_end reading.fault reading offset taken frames stands.0 ends stands.1
-
-pub fresh_intake : (reading : Reading) → IsFreshReading reading → IsFresh (record_reads reading)
-fresh_intake reading fresh = record {
-  given = rw (fresh.start, fresh.whole, fresh.held) refl;
-  head = unknown reading.started reading.head fresh.started;
-  stands = (fresh.fault, fresh_stands reading fresh);
-}
