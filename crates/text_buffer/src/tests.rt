@@ -14,7 +14,7 @@ fn texts_stand_one_behind_another(rt: HostRuntime) -> Result<(), NoMemory> {
     out.push_hexadecimal(0xAB);
     out.push(b" ");
     out.push_last_word(1);
-    let text = b"a 120 000000000034 000000ab 00000001\n";
+    let text = b"a 120 000000000034 000000AB 00000001\n";
     assert_eq!(rt; out.as_slice(), text.as_slice());
     out.clear();
     assert_eq!(rt; out.as_slice(), b"".as_slice());
