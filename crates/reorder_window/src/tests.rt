@@ -78,6 +78,13 @@ fn lost_packets_are_counted_modulo_sixteen(rt: HostRuntime) -> Result<(), Fail> 
             item: 3
         }
     );
+    Ok(())
+}
+
+#[test]
+fn a_window_of_one_counts_lost_packets_where_they_are_released(
+    rt: HostRuntime,
+) -> Result<(), Fail> {
     let mut pair = Window::open(rt.alloc(), 1).ok().ok_or("memory")?;
     assert_eq!(rt; pair.arrive(at(0), 0, 0), Arrival::Kept);
     assert_eq!(rt;
@@ -118,6 +125,11 @@ fn packets_below_the_boundary_are_late(rt: HostRuntime) -> Result<(), Fail> {
             item: 2
         }
     );
+    Ok(())
+}
+
+#[test]
+fn packets_at_the_boundary_are_late(rt: HostRuntime) -> Result<(), Fail> {
     let mut one = Window::open(rt.alloc(), 1).ok().ok_or("memory")?;
     assert_eq!(rt; one.arrive(at(7), 0, 1), Arrival::Kept);
     assert_eq!(rt;

@@ -18,7 +18,7 @@ fn four_bit_samples_are_counted_and_read(rt: HostRuntime) {
 }
 
 #[test]
-fn each_width_goes_both_ways_across_words(rt: HostRuntime) {
+fn widths_of_four_to_eight_go_both_ways_across_words(rt: HostRuntime) {
     both_ways(&rt, 4, 7, b"\x78\xF0\x87\x1E\x07\x00\x00\x00");
     both_ways(&rt, 5, 15, b"\x7C\x3E\x08\x3C\x3E\x03\xC0\x00");
     both_ways(&rt, 6, 31, b"\x7E\x0F\xC0\x81\xF0\x7E\x01\xF0");
@@ -34,6 +34,10 @@ fn each_width_goes_both_ways_across_words(rt: HostRuntime) {
         127,
         b"\x7F\x80\xFF\x00\x80\x7F\x01\xFE\x00\x7F\x00\x00",
     );
+}
+
+#[test]
+fn widths_of_nine_to_twelve_go_both_ways_across_words(rt: HostRuntime) {
     both_ways(
         &rt,
         9,
@@ -58,6 +62,10 @@ fn each_width_goes_both_ways_across_words(rt: HostRuntime) {
         2047,
         b"\x7F\xF8\x00\xFF\xF0\x00\x80\x07\xFF\x00\x1F\xFE\x00\x07\xFF\x00",
     );
+}
+
+#[test]
+fn widths_of_thirteen_to_sixteen_go_both_ways_across_words(rt: HostRuntime) {
     both_ways(
         &rt,
         13,

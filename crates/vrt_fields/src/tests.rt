@@ -117,69 +117,39 @@ fn is_text(alloc: Global, field: Field, value: u64, wanted: &[u8]) -> Result<boo
 }
 
 #[test]
-fn the_fields_of_a_context_are_told(rt: HostRuntime) -> Result<(), NoMemory> {
+fn the_frequencies_of_a_context_are_told(rt: HostRuntime) -> Result<(), NoMemory> {
     let alloc = rt.alloc();
-    assert!(rt;
-        is_text(
-            alloc,
-            Field::ReferencePoint,
-            0x64,
-            b"reference point 00000064"
-        )?
-    );
-    assert!(rt;
-        is_text(
-            alloc,
-            Field::Bandwidth,
-            280_000 << 20,
-            b"bandwidth 280000 Hz + 0/1048576"
-        )?
-    );
-    assert!(rt;
-        is_text(
-            alloc,
-            Field::IfReference,
-            70_000_000 << 20,
-            b"IF 70000000 Hz + 0/1048576"
-        )?
-    );
-    assert!(rt;
-        is_text(
-            alloc,
-            Field::RfReference,
-            1_200_000_000 << 20,
-            b"RF 1200000000 Hz + 0/1048576"
-        )?
-    );
+    let bandwidth = b"bandwidth 280000 Hz + 0/1048576";
+    assert!(rt; is_text(alloc, Field::Bandwidth, 280_000 << 20, bandwidth)?);
+    let intermediate = b"IF 70000000 Hz + 0/1048576";
+    assert!(rt; is_text(alloc, Field::IfReference, 70_000_000 << 20, intermediate)?);
+    let radio = b"RF 1200000000 Hz + 0/1048576";
+    assert!(rt; is_text(alloc, Field::RfReference, 1_200_000_000 << 20, radio)?);
     assert!(rt; is_text(alloc, Field::IfOffset, 0, b"IF offset 0 Hz + 0/1048576")?);
-    assert!(rt;
-        is_text(
-            alloc,
-            Field::ReferenceLevel,
-            0,
-            b"reference level 0/128 dBm upper 0000"
-        )?
-    );
+    let rate = b"sample rate 350000 Hz + 0/1048576";
+    assert!(rt; is_text(alloc, Field::SampleRate, 350_000 << 20, rate)?);
+    Ok(())
+}
+
+#[test]
+fn the_other_fields_of_a_context_are_told(rt: HostRuntime) -> Result<(), NoMemory> {
+    let alloc = rt.alloc();
+    let point = b"reference point 00000064";
+    assert!(rt; is_text(alloc, Field::ReferencePoint, 0x64, point)?);
+    let level = b"reference level 0/128 dBm upper 0000";
+    assert!(rt; is_text(alloc, Field::ReferenceLevel, 0, level)?);
     assert!(rt; is_text(alloc, Field::Gain, 0x500, b"gain 1280/128 dB 0/128 dB")?);
-    assert!(rt;
-        is_text(
-            alloc,
-            Field::SampleRate,
-            350_000 << 20,
-            b"sample rate 350000 Hz + 0/1048576"
-        )?
-    );
     assert!(rt; is_text(alloc, Field::TimeAdjustment, 0, b"time adjustment 0 fs")?);
     assert!(rt; is_text(alloc, Field::Calibration, 0, b"calibration 0 s")?);
     assert!(rt; is_text(alloc, Field::State, 0xC00C_0000, b"state C00C0000")?);
-    assert!(rt;
-        is_text(
-            alloc,
-            Field::Format,
-            0xA000_03CF_0000_0000,
-            b"payload A00003CF 00000000"
-        )?
-    );
+    let format = b"payload A00003CF 00000000";
+    assert!(rt; is_text(alloc, Field::Format, 0xA000_03CF_0000_0000, format)?);
+    Ok(())
+}
+
+#[test]
+fn the_text_of_a_field_stands_behind_what_was_there(rt: HostRuntime) -> Result<(), NoMemory> {
+    let alloc = rt.alloc();
     let mut text = Vec::new(alloc);
     text_of(alloc, Field::Gain, 0x500, &mut text)?;
     text_of(alloc, Field::State, 1, &mut text)?;
