@@ -65,12 +65,12 @@ IsStep grammar events.More piece count old new = IsMore piece count old new
 IsStep grammar events.Head piece count old new = IsHeadRead grammar piece count old new
 IsStep grammar events.Frame piece count old new = IsFrameRead piece count old new
 
--- some of the bytes, and the first of them where there is one
+-- so many of the bytes were taken, and no more than there are
 pub record TakesFront {H F : Type 0} (piece : List ℕ) (count : ℕ) (old new : Reads H F) : Type 0 where
   pub few : count ≤ length piece
   pub given : new.given ≡ old.given + count
 
--- a field is wrong, where so many bytes are in front of it, and behind the frames so far
+-- the first field that is wrong begins at this offset, and what stands whole in front of it are the header and frames so far
 pub record IsWrong {H F : Type 0} (grammar : Grammar H F) (piece : List ℕ) (offset : ℕ) (old : Reads H F) : Type 0 where
   pub wrong : (taken : List ℕ) (frames : List F) → old.stands taken frames → grammar.wrong (taken ++ piece) offset
   pub has : (taken : List ℕ) (frames : List F) → old.stands taken frames → HasWhole grammar old.head frames (taken ++ piece)
