@@ -21,7 +21,7 @@ use vrt_words::bits_of;
 
 /// Puts behind the text what a command holds.
 pub(crate) fn push_control(alloc: Global, out: &mut TextBuffer, packet: &Control)
-    requires { length out.old + 1400 ≤ 196608 }
+    requires { length out.old + 1400 ≤ 327680 }
     ensures text { out.new ≡ out.old ++ control_details packet.now }
     ensures length { length out.new ≤ length out.old + 1400 }
 {
@@ -32,7 +32,7 @@ pub(crate) fn push_control(alloc: Global, out: &mut TextBuffer, packet: &Control
 
 /// Puts behind the text what a cancellation holds.
 pub(crate) fn push_cancel(out: &mut TextBuffer, packet: &Cancel)
-    requires { length out.old + 300 ≤ 196608 }
+    requires { length out.old + 300 ≤ 327680 }
     ensures text { out.new ≡ out.old ++ cancel_details packet.now }
     ensures length { length out.new ≤ length out.old + 300 }
 {
@@ -42,7 +42,7 @@ pub(crate) fn push_cancel(out: &mut TextBuffer, packet: &Cancel)
 
 /// Puts behind the text what an acknowledgement holds.
 pub(crate) fn push_ack(alloc: Global, out: &mut TextBuffer, packet: &Ack)
-    requires { length out.old + 1400 ≤ 196608 }
+    requires { length out.old + 1400 ≤ 327680 }
     ensures text { out.new ≡ out.old ++ ack_details packet.now }
     ensures length { length out.new ≤ length out.old + 1400 }
 {
@@ -54,7 +54,7 @@ pub(crate) fn push_ack(alloc: Global, out: &mut TextBuffer, packet: &Ack)
 
 // What an acknowledgement of the validation or of the execution holds.
 fn push_report(out: &mut TextBuffer, report: &AckReport)
-    requires { length out.old + 1000 ≤ 196608 }
+    requires { length out.old + 1000 ≤ 327680 }
     ensures text { out.new ≡ out.old ++ report_details report.now }
     ensures length { length out.new ≤ length out.old + 1000 }
 {
@@ -72,7 +72,7 @@ fn push_report(out: &mut TextBuffer, report: &AckReport)
 
 // What an answer to a query of the state holds.
 fn push_state(alloc: Global, out: &mut TextBuffer, state: &AckState)
-    requires { length out.old + 1400 ≤ 196608 }
+    requires { length out.old + 1400 ≤ 327680 }
     ensures text { out.new ≡ out.old ++ state_details state.now }
     ensures length { length out.new ≤ length out.old + 1400 }
 {
@@ -90,7 +90,7 @@ fn push_state(alloc: Global, out: &mut TextBuffer, state: &AckState)
 
 // What packets of the family have in front.
 fn push_front(out: &mut TextBuffer, front: &CommandPrologue)
-    requires { length out.old + 250 ≤ 196608 }
+    requires { length out.old + 250 ≤ 327680 }
     ensures text { out.new ≡ out.old ++ front_lines front.now }
     ensures length { length out.new ≤ length out.old + 250 }
 {
@@ -100,7 +100,7 @@ fn push_front(out: &mut TextBuffer, front: &CommandPrologue)
 
 // The lines of the mode word, the message identifier and the identities.
 fn push_command(out: &mut TextBuffer, front: &CommandPrologue)
-    requires { length out.old + 150 ≤ 196608 }
+    requires { length out.old + 150 ≤ 327680 }
     ensures text { out.new ≡ out.old ++ command_lines front.now }
     ensures length { length out.new ≤ length out.old + 150 }
 {
@@ -112,7 +112,7 @@ fn push_command(out: &mut TextBuffer, front: &CommandPrologue)
 
 // The line of the mode word.
 fn push_mode(out: &mut TextBuffer, cam: &Cam)
-    requires { length out.old + 20 ≤ 196608 }
+    requires { length out.old + 20 ≤ 327680 }
     ensures text { out.new ≡ out.old ++ word_line (codes "cam ") (word_of_cam cam.now) }
     ensures length { length out.new ≤ length out.old + 20 }
 {
@@ -129,7 +129,7 @@ fn word_of(cam: &Cam) -> u32
 // The line of an identity.
 fn push_identity(out: &mut TextBuffer, name: &[u8], ident: &Ident)
     requires name { length name.now ≤ 10 }
-    requires room { length out.old + 50 ≤ 196608 }
+    requires room { length out.old + 50 ≤ 327680 }
     ensures text { out.new ≡ out.old ++ indented (name.now ++ identity ident.now) }
     ensures length { length out.new ≤ length out.old + 50 }
 {
@@ -141,7 +141,7 @@ fn push_identity(out: &mut TextBuffer, name: &[u8], ident: &Ident)
 
 // The words of an identity, or that there is none.
 fn push_ident(out: &mut TextBuffer, ident: &Ident)
-    requires { length out.old + 36 ≤ 196608 }
+    requires { length out.old + 36 ≤ 327680 }
     ensures text { out.new ≡ out.old ++ identity ident.now }
     ensures length { length out.new ≤ length out.old + 36 }
 {
@@ -154,7 +154,7 @@ fn push_ident(out: &mut TextBuffer, ident: &Ident)
 
 // The four words of a UUID.
 fn push_uuid(out: &mut TextBuffer, words: &[u32; 4])
-    requires { length out.old + 36 ≤ 196608 }
+    requires { length out.old + 36 ≤ 327680 }
     ensures text { out.new ≡ out.old ++ flat_map spaced words.now }
     ensures length { length out.new ≤ length out.old + 36 }
 {
@@ -165,7 +165,7 @@ fn push_uuid(out: &mut TextBuffer, words: &[u32; 4])
 
 // A word behind others.
 fn push_spaced(out: &mut TextBuffer, word: u32)
-    requires { length out.old + 9 ≤ 196608 }
+    requires { length out.old + 9 ≤ 327680 }
     ensures text { out.new ≡ out.old ++ spaced word }
     ensures length { length out.new ≤ length out.old + 9 }
 {
@@ -176,7 +176,7 @@ fn push_spaced(out: &mut TextBuffer, word: u32)
 // A line of a name and a word.
 fn push_word(out: &mut TextBuffer, name: &[u8], word: u32)
     requires name { length name.now ≤ 9 }
-    requires room { length out.old + 20 ≤ 196608 }
+    requires room { length out.old + 20 ≤ 327680 }
     ensures text { out.new ≡ out.old ++ word_line name.now word }
     ensures length { length out.new ≤ length out.old + 20 }
 {
@@ -188,7 +188,7 @@ fn push_word(out: &mut TextBuffer, name: &[u8], word: u32)
 
 // The values of a command, or that it is a query.
 fn push_content(alloc: Global, out: &mut TextBuffer, fields: &Option<FieldSet>)
-    requires { length out.old + 1000 ≤ 196608 }
+    requires { length out.old + 1000 ≤ 327680 }
     ensures text { out.new ≡ out.old ++ content fields.now }
     ensures length { length out.new ≤ length out.old + 1000 }
 {
@@ -200,7 +200,7 @@ fn push_content(alloc: Global, out: &mut TextBuffer, fields: &Option<FieldSet>)
 
 // A line for each field of a set.
 fn push_set(alloc: Global, out: &mut TextBuffer, set: &FieldSet)
-    requires { length out.old + 1000 ≤ 196608 }
+    requires { length out.old + 1000 ≤ 327680 }
     ensures text { out.new ≡ out.old ++ set_lines set.now }
     ensures length { length out.new ≤ length out.old + 1000 }
 {
@@ -210,7 +210,7 @@ fn push_set(alloc: Global, out: &mut TextBuffer, set: &FieldSet)
 // The lines of some fields of a set.
 fn push_set_lines(alloc: Global, out: &mut TextBuffer, set: &FieldSet, fields: &[Field])
     requires few { length fields.now ≤ 12 }
-    requires room { length out.old + 1000 ≤ 196608 }
+    requires room { length out.old + 1000 ≤ 327680 }
     ensures text { out.new ≡ out.old ++ flat_map (set_line set.now) fields.now }
     ensures length { length out.new ≤ length out.old + 1000 }
 {
@@ -222,7 +222,7 @@ fn push_set_lines(alloc: Global, out: &mut TextBuffer, set: &FieldSet, fields: &
 // The line of a field, where it has a value.
 fn push_value(alloc: Global, out: &mut TextBuffer, field: Field, value: Option<u64>)
     requires fits { IfSome value (FitsField field) }
-    requires room { length out.old + 83 ≤ 196608 }
+    requires room { length out.old + 83 ≤ 327680 }
     ensures text { out.new ≡ out.old ++ line_if value field }
     ensures length { length out.new ≤ length out.old + 83 }
 {
@@ -234,7 +234,7 @@ fn push_value(alloc: Global, out: &mut TextBuffer, field: Field, value: Option<u
 // The fields that met a warning or an error, where there are such.
 fn push_responses(out: &mut TextBuffer, name: &[u8], responses: &Option<Responses>)
     requires name { length name.now ≤ 9 }
-    requires room { length out.old + 260 ≤ 196608 }
+    requires room { length out.old + 260 ≤ 327680 }
     ensures text { out.new ≡ out.old ++ response_lines name.now responses.now }
     ensures length { length out.new ≤ length out.old + 260 }
 {
@@ -246,7 +246,7 @@ fn push_responses(out: &mut TextBuffer, name: &[u8], responses: &Option<Response
 
 // The lines of the fields that are listed.
 fn push_listed(out: &mut TextBuffer, responses: &Responses)
-    requires { length out.old + 240 ≤ 196608 }
+    requires { length out.old + 240 ≤ 327680 }
     ensures text { out.new ≡ out.old ++ flat_map (response_line responses.now) fields_in_order }
     ensures length { length out.new ≤ length out.old + 240 }
 {
@@ -259,7 +259,7 @@ fn push_listed(out: &mut TextBuffer, responses: &Responses)
 // The line of the field with this number, where it is listed.
 fn push_response(out: &mut TextBuffer, responses: &Responses, index: usize, field: Field)
     requires field { index ≡ index_of field }
-    requires room { length out.old + 20 ≤ 196608 }
+    requires room { length out.old + 20 ≤ 327680 }
     ensures text { out.new ≡ out.old ++ response_line responses.now field }
     ensures length { length out.new ≤ length out.old + 20 }
 {
@@ -277,7 +277,7 @@ fn value_of_bit(field: Field) -> u32
 
 // A line of two words.
 fn push_pair(out: &mut TextBuffer, first: u32, second: u32)
-    requires { length out.old + 20 ≤ 196608 }
+    requires { length out.old + 20 ≤ 327680 }
     ensures text { out.new ≡ out.old ++ indented (hexadecimal first ++ spaced second) }
     ensures length { length out.new ≤ length out.old + 20 }
 {

@@ -25,7 +25,7 @@ use vrt_words::bits_of;
 
 /// Puts behind the text what a listing tells of an accepted packet under the line of its frame.
 pub fn push_under(alloc: Global, out: &mut TextBuffer, listing: Listing, packet: &Packet<'_>)
-    requires { length out.old + 1400 ≤ 196608 }
+    requires { length out.old + 1400 ≤ 327680 }
     ensures text { out.new ≡ out.old ++ under listing (value_of packet.now) }
     ensures length { length out.new ≤ length out.old + 1400 }
 {
@@ -37,7 +37,7 @@ pub fn push_under(alloc: Global, out: &mut TextBuffer, listing: Listing, packet:
 
 // All that a packet holds.
 fn push_details(alloc: Global, out: &mut TextBuffer, packet: &Packet<'_>)
-    requires { length out.old + 1400 ≤ 196608 }
+    requires { length out.old + 1400 ≤ 327680 }
     ensures text { out.new ≡ out.old ++ details (value_of packet.now) }
     ensures length { length out.new ≤ length out.old + 1400 }
 {
@@ -52,7 +52,7 @@ fn push_details(alloc: Global, out: &mut TextBuffer, packet: &Packet<'_>)
 }
 
 fn push_data(out: &mut TextBuffer, rec: &DataRec<'_>)
-    requires { length out.old + 200 ≤ 196608 }
+    requires { length out.old + 200 ≤ 327680 }
     ensures text { out.new ≡ out.old ++ data_details (packet_of rec.now) }
     ensures length { length out.new ≤ length out.old + 200 }
 {
@@ -62,7 +62,7 @@ fn push_data(out: &mut TextBuffer, rec: &DataRec<'_>)
 }
 
 fn push_context(alloc: Global, out: &mut TextBuffer, rec: &ContextRec)
-    requires { length out.old + 1400 ≤ 196608 }
+    requires { length out.old + 1400 ≤ 327680 }
     ensures text { out.new ≡ out.old ++ context_details rec.now }
     ensures length { length out.new ≤ length out.old + 1400 }
 {
@@ -72,7 +72,7 @@ fn push_context(alloc: Global, out: &mut TextBuffer, rec: &ContextRec)
 }
 
 pub(crate) fn push_version(out: &mut TextBuffer, rec: &VersionRec)
-    requires { length out.old + 400 ≤ 196608 }
+    requires { length out.old + 400 ≤ 327680 }
     ensures text { out.new ≡ out.old ++ version_details rec.now }
     ensures length { length out.new ≤ length out.old + 400 }
 {
@@ -84,7 +84,7 @@ pub(crate) fn push_version(out: &mut TextBuffer, rec: &VersionRec)
 
 /// Puts behind the text the lines of the prologue: its stamp and its count.
 pub(crate) fn push_common(out: &mut TextBuffer, prologue: &Prologue)
-    requires { length out.old + 100 ≤ 196608 }
+    requires { length out.old + 100 ≤ 327680 }
     ensures text { out.new ≡ out.old ++ common prologue.now }
     ensures length { length out.new ≤ length out.old + 100 }
 {
@@ -94,7 +94,7 @@ pub(crate) fn push_common(out: &mut TextBuffer, prologue: &Prologue)
 
 // The line of the stamp.
 fn push_time(out: &mut TextBuffer, prologue: &Prologue)
-    requires { length out.old + 60 ≤ 196608 }
+    requires { length out.old + 60 ≤ 327680 }
     ensures text { out.new ≡ out.old ++ indented (time prologue.now.stamp) }
     ensures length { length out.new ≤ length out.old + 60 }
 {
@@ -113,7 +113,7 @@ fn push_time(out: &mut TextBuffer, prologue: &Prologue)
 // A line of a name and a number.
 fn push_number(out: &mut TextBuffer, name: &[u8], number: u64)
     requires name { length name.now ≤ 16 }
-    requires room { length out.old + 40 ≤ 196608 }
+    requires room { length out.old + 40 ≤ 327680 }
     ensures text { out.new ≡ out.old ++ indented (name.now ++ decimal number) }
     ensures length { length out.new ≤ length out.old + 40 }
 {
@@ -125,7 +125,7 @@ fn push_number(out: &mut TextBuffer, name: &[u8], number: u64)
 
 // The line of the change indicator.
 fn push_changes(out: &mut TextBuffer, changed: bool)
-    requires { length out.old + 20 ≤ 196608 }
+    requires { length out.old + 20 ≤ 327680 }
     ensures text { out.new ≡ out.old ++ indented (changes changed) }
     ensures length { length out.new ≤ length out.old + 20 }
 {
@@ -139,7 +139,7 @@ fn push_changes(out: &mut TextBuffer, changed: bool)
 // The lines of some fields of a context.
 fn push_fields(alloc: Global, out: &mut TextBuffer, rec: &ContextRec, fields: &[Field])
     requires few { length fields.now ≤ 12 }
-    requires room { length out.old + 1000 ≤ 196608 }
+    requires room { length out.old + 1000 ≤ 327680 }
     ensures text { out.new ≡ out.old ++ flat_map (field_line rec.now) fields.now }
     ensures length { length out.new ≤ length out.old + 1000 }
 {
@@ -151,7 +151,7 @@ fn push_fields(alloc: Global, out: &mut TextBuffer, rec: &ContextRec, fields: &[
 // The line of a field with this value among the words of all.
 fn push_field(alloc: Global, out: &mut TextBuffer, words: &[u32], field: Field, value: u64)
     requires value { value ≡ field_of words.now field }
-    requires room { length out.old + 83 ≤ 196608 }
+    requires room { length out.old + 83 ≤ 327680 }
     ensures text { out.new ≡ out.old ++ indented (field_text field value) }
     ensures length { length out.new ≤ length out.old + 83 }
 {
@@ -160,7 +160,7 @@ fn push_field(alloc: Global, out: &mut TextBuffer, words: &[u32], field: Field, 
 
 /// Puts the line of a field with this value behind the text.
 pub(crate) fn push_field_line(alloc: Global, out: &mut TextBuffer, field: Field, value: u64)
-    requires room { length out.old + 83 ≤ 196608 }
+    requires room { length out.old + 83 ≤ 327680 }
     requires fits { width_of field ≡ 1 → value < 2 ^ 32 }
     ensures text { out.new ≡ out.old ++ indented (field_text field value) }
     ensures length { length out.new ≤ length out.old + 83 }
@@ -172,7 +172,7 @@ pub(crate) fn push_field_line(alloc: Global, out: &mut TextBuffer, field: Field,
 
 // The line of the version of the specification.
 fn push_spec(out: &mut TextBuffer, spec: u32)
-    requires { length out.old + 20 ≤ 196608 }
+    requires { length out.old + 20 ≤ 327680 }
     ensures text { out.new ≡ out.old ++ indented (codes "spec " ++ hexadecimal spec) }
     ensures length { length out.new ≤ length out.old + 20 }
 {
@@ -183,7 +183,7 @@ fn push_spec(out: &mut TextBuffer, spec: u32)
 
 // The line of the version word.
 fn push_version_word(out: &mut TextBuffer, word: u32)
-    requires { length out.old + 140 ≤ 196608 }
+    requires { length out.old + 140 ≤ 327680 }
     ensures text { out.new ≡ out.old ++ indented (version word) }
     ensures length { length out.new ≤ length out.old + 140 }
 {
@@ -197,7 +197,7 @@ fn push_version_word(out: &mut TextBuffer, word: u32)
 
 // A name and a number.
 fn push_part(out: &mut TextBuffer, name: &[u8], number: u32)
-    requires { length out.old + length name.now + 20 ≤ 196608 }
+    requires { length out.old + length name.now + 20 ≤ 327680 }
     ensures text { out.new ≡ out.old ++ (name.now ++ decimal number) }
     ensures length { length out.new ≤ length out.old + length name.now + 20 }
 {

@@ -39,7 +39,7 @@ pub fn accepted(packet: &Packet<'_>) -> Judgement
 /// Puts the line of the frame with this number behind the text.
 #[inline(always)]
 pub fn push_line(out: &mut TextBuffer, number: &FrameWords, judgement: Judgement)
-    requires { length out.old + 64 ≤ 196608 }
+    requires { length out.old + 64 ≤ 327680 }
     ensures text { out.new ≡ out.old ++ line number.now judgement }
     ensures length { length out.new ≤ length out.old + 64 }
 {
@@ -50,7 +50,7 @@ pub fn push_line(out: &mut TextBuffer, number: &FrameWords, judgement: Judgement
 // What a line says of a datagram, with the end of the line.
 #[inline(always)]
 fn push_outcome(out: &mut TextBuffer, judgement: Judgement)
-    requires { length out.old + 38 ≤ 196608 }
+    requires { length out.old + 38 ≤ 327680 }
     ensures text { out.new ≡ out.old ++ outcome judgement ++ codes "\n" }
     ensures length { length out.new ≤ length out.old + 38 }
 {
@@ -67,7 +67,7 @@ fn push_outcome(out: &mut TextBuffer, judgement: Judgement)
 // What a line says of an accepted packet in front of its stream.
 #[inline(always)]
 fn push_acceptance(out: &mut TextBuffer, kind: PacketKind)
-    requires { length out.old + 19 ≤ 196608 }
+    requires { length out.old + 19 ≤ 327680 }
     ensures text { out.new ≡ out.old ++ acceptance kind }
     ensures length { length out.new ≤ length out.old + 19 }
 {
@@ -86,7 +86,7 @@ fn push_acceptance(out: &mut TextBuffer, kind: PacketKind)
 // What a line says of a datagram that is no packet, with the end of the line.
 #[inline(never)]
 fn push_refusal(out: &mut TextBuffer, word: u32)
-    requires { length out.old + 38 ≤ 196608 }
+    requires { length out.old + 38 ≤ 327680 }
     ensures text { out.new ≡ out.old ++ (codes " refused at word " ++ decimal word) ++ codes "\n" }
     ensures length { length out.new ≤ length out.old + 38 }
 {
@@ -97,7 +97,7 @@ fn push_refusal(out: &mut TextBuffer, word: u32)
 
 /// Puts the last line behind the text.
 pub fn push_counts(out: &mut TextBuffer, frames: u64, accepted: u64)
-    requires room { length out.old + 96 ≤ 196608 }
+    requires room { length out.old + 96 ≤ 327680 }
     requires accepted { accepted ≤ frames }
     ensures text { out.new ≡ out.old ++ counts frames accepted }
     ensures length { length out.new ≤ length out.old + 96 }

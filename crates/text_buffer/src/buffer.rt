@@ -11,9 +11,9 @@ use vrt_fields::{
 };
 use vrt_words::NoMemory;
 
-/// The bytes that a buffer has room for: those of a full one, and 131,072 more, which is more than is
+/// The bytes that a buffer has room for: those of a full one, and 262,144 more, which is more than is
 /// put at once.
-const ROOM: usize = 196_608;
+const ROOM: usize = 327_680;
 
 /// A buffer that holds so many bytes is written.
 const FULL: usize = 65_536;
@@ -31,7 +31,7 @@ impl Model for TextBuffer {
 
     ghost view = { λ buffer. buffer.bytes.items };
 
-    ghost invariant = { λ buffer. 196608 ≤ vec_capacity buffer.bytes };
+    ghost invariant = { λ buffer. 327680 ≤ vec_capacity buffer.bytes };
 }
 
 impl TextBuffer {
@@ -69,7 +69,7 @@ impl TextBuffer {
     /// Puts a text behind the bytes.
     #[inline]
     pub fn push(&mut self, text: &[u8])
-        requires { length self.old + length text.now ≤ 196608 }
+        requires { length self.old + length text.now ≤ 327680 }
         ensures { self.new ≡ self.old ++ text.now }
     {
         push_text(&mut self.bytes, text);
@@ -77,7 +77,7 @@ impl TextBuffer {
 
     /// Puts a number behind the bytes, in decimal digits.
     pub fn push_decimal(&mut self, number: u64)
-        requires { length self.old + 20 ≤ 196608 }
+        requires { length self.old + 20 ≤ 327680 }
         ensures text { self.new ≡ self.old ++ decimal number }
         ensures length { length self.new ≤ length self.old + 20 }
     {
@@ -86,7 +86,7 @@ impl TextBuffer {
 
     /// Puts a number behind the bytes, in twelve decimal digits or more.
     pub fn push_twelve_digits(&mut self, number: u64)
-        requires { length self.old + 20 ≤ 196608 }
+        requires { length self.old + 20 ≤ 327680 }
         ensures text { self.new ≡ self.old ++ padded_decimal 12 number }
         ensures length { length self.new ≤ length self.old + 20 }
     {
@@ -95,7 +95,7 @@ impl TextBuffer {
 
     /// Puts a word behind the bytes, in eight digits to the base 16.
     pub fn push_hexadecimal(&mut self, word: u32)
-        requires { length self.old + 8 ≤ 196608 }
+        requires { length self.old + 8 ≤ 327680 }
         ensures { self.new ≡ self.old ++ hexadecimal word }
     {
         push_hexadecimal(&mut self.bytes, word);
@@ -104,7 +104,7 @@ impl TextBuffer {
     /// Puts a word behind the bytes, in eight digits to the base 16, and the end of a line.
     #[inline]
     pub fn push_last_word(&mut self, word: u32)
-        requires { length self.old + 9 ≤ 196608 }
+        requires { length self.old + 9 ≤ 327680 }
         ensures text { self.new ≡ self.old ++ hexadecimal word ++ 10 ∷ [] }
         ensures length { length self.new ≡ length self.old + 9 }
     {
@@ -114,7 +114,7 @@ impl TextBuffer {
 
     /// Puts the text of a field behind the bytes.
     pub fn push_field(&mut self, alloc: Global, field: Field, value: u64)
-        requires room { length self.old + 80 ≤ 196608 }
+        requires room { length self.old + 80 ≤ 327680 }
         requires fits { width_of field ≡ 1 → value < 2 ^ 32 }
         ensures text { self.new ≡ self.old ++ field_text field value }
         ensures length { length self.new ≤ length self.old + 80 }

@@ -2,6 +2,7 @@ pub mod Field
 pub mod FieldWords
 pub mod Limit
 pub mod Limits
+pub mod Route
 pub mod Format
 pub mod FieldSet
 pub mod Values
