@@ -42,23 +42,23 @@ more_fed bytes count reads reads' tells way taken frames more stands = record {
   sends = sends_nothing way;
 }
 
-pub head_fed : {H F : Type 0} (grammar : Grammar H F) (bytes : List ℕ) (count : ℕ) (reads reads' : Reads H F) (tells tells' : Tells H F) (way : Way) (taken : List ℕ) (frames : List F)
+pub head_fed : {H F : Type 0} (grammar : Grammar H F) (bytes : List ℕ) (count : ℕ) (reads reads' : Reads H F) (tells tells' : Tells H F) (way way' : Way) (taken : List ℕ) (frames : List F)
     → IsHeadRead grammar bytes count reads reads' → reads.stands taken frames
-    → ((head : H) → reads'.head ≡ Some head → GoesOn head [] [] tells tells')
-    → IsFed (take count bytes) reads reads' tells tells' way way taken frames
-head_fed grammar bytes count reads reads' tells tells' way taken frames read stands begun = record {
+    → ((head : H) → reads'.head ≡ Some head → (text : List ℕ) × (GoesOn head [] text tells tells' × Sends text way way'))
+    → IsFed (take count bytes) reads reads' tells tells' way way' taken frames
+head_fed grammar bytes count reads reads' tells tells' way way' taken frames read stands begun = record {
   later = [];
-  text = [];
+  text = (begun read.says read.head).0;
   stands = subst (reads'.stands (taken ++ take count bytes)) (sym (append-nil frames)) (read.stands taken frames stands);
-  going = subst (λ (h : Option _). IsGoing h [] [] tells tells') (sym read.head) (begun read.says read.head);
-  sends = sends_nothing way;
+  going = subst (λ (h : Option _). IsGoing h [] (begun read.says read.head).0 tells tells') (sym read.head) (begun read.says read.head).1.0;
+  sends = (begun read.says read.head).1.1;
 }
 
-pub frame_fed : {H F : Type 0} (bytes : List ℕ) (count : ℕ) (reads reads' : Reads H F) (tells tells' : Tells H F) (way way' : Way) (taken : List ℕ) (frames : List F)
-    → (read : IsFrameRead bytes count reads reads') → reads.stands taken frames
+pub frame_fed : {H F : Type 0} (grammar : Grammar H F) (bytes : List ℕ) (count : ℕ) (reads reads' : Reads H F) (tells tells' : Tells H F) (way way' : Way) (taken : List ℕ) (frames : List F)
+    → (read : IsFrameRead grammar bytes count reads reads') → reads.stands taken frames
     → ((text : List ℕ) × (GoesOn read.says (read.is ∷ []) text tells tells' × Sends text way way'))
     → IsFed (take count bytes) reads reads' tells tells' way way' taken frames
-frame_fed bytes count reads reads' tells tells' way way' taken frames read stands told = record {
+frame_fed grammar bytes count reads reads' tells tells' way way' taken frames read stands told = record {
   later = read.is ∷ [];
   text = told.0;
   stands = read.stands taken frames stands;

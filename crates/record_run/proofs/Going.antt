@@ -1,7 +1,7 @@
 -- What was told in two steps was told in one.
-use Rattle.std.proofs.Common.{◌≡◌, ℕ, List, [], ◌++◌, refl, sym, ap, ◌∙◌, subst, append_assoc, append-nil}
+use Rattle.std.proofs.Common.{◌≡◌, ℕ, List, [], ◌++◌, refl, sym, ap, ◌∙◌, subst, append_assoc, append-nil, arith}
 use Rattle.std.specs.Prelude.{Option, Some, None}
-use Rattle.record_run.specs.Tells.{Tells, GoesOn, KeepsCount, Puts}
+use Rattle.record_run.specs.Tells.{Tells, GoesOn, KeepsCount, CountsFrame, Puts}
 use Rattle.record_run.specs.Progress.{IsSent}
 use Rattle.record_run.specs.Steps.{Way, Sends, IsPut, IsGoing, HeadStays}
 use Rattle.record_run.proofs.Sent.{sent_more}
@@ -51,6 +51,14 @@ sends_further text a b c sends sent = λ start before all s. sent start before (
 
 pub keeps_on : {H F : Type 0} (a b c : Tells H F) → KeepsCount a b → KeepsCount b c → KeepsCount a c
 keeps_on a b c p q = record { count = q.count ∙ p.count; wants = q.wants ∙ p.wants; ended = q.ended ∙ p.ended }
+
+-- and nothing more was counted
+pub counts_on : {H F : Type 0} (size : ℕ) (a b c : Tells H F) → CountsFrame size a b → KeepsCount b c → CountsFrame size a c
+counts_on size a b c p q = record {
+  count = omega (arith, p.count, q.count);
+  wants = q.wants ∙ p.wants;
+  ended = q.ended ∙ p.ended;
+}
 
 pub put_nothing : {H F : Type 0} (tells : Tells H F) (way : Way) → IsPut tells tells way way
 put_nothing tells way = record {

@@ -69,7 +69,7 @@ cut_from text way way' idle cut sends =
 -- ---- the text of the bytes
 
 pub part_told : {H F : Type 0} (behaviour : Behaviour H F) (head : Option H) (frames : List F) (bytes text : List ℕ) (tells : Tells H F)
-    → HasWhole behaviour.grammar head frames bytes → IsGoing head frames text behaviour.tells tells → IsSettled tells
+    → HasWhole behaviour.grammar head frames bytes → IsGoing head frames text behaviour.tells tells → (head ≢ None → IsSettled tells)
     → IsPart behaviour bytes text
 part_told behaviour None frames bytes text tells has going settled = inl (has.1, going.1.0)
 part_told behaviour (Some head) frames bytes text tells has going settled =
@@ -80,7 +80,7 @@ part_told behaviour (Some head) frames bytes text tells has going settled =
         (
           has,
           subst (λ fs. behaviour.tells.part head fs text) (append-nil frames)
-              (subst (behaviour.tells.part head (frames ++ [])) (append-nil text) (going.part [] [] (settled.part head))),
+              (subst (behaviour.tells.part head (frames ++ [])) (append-nil text) (going.part [] [] ((settled (λ e. cc)).part head))),
         ),
       ),
     )
@@ -109,6 +109,10 @@ pub record IsAtRead {H F : Type 0} (behaviour : Behaviour H F) (reads reads' : R
   pub idle : IsIdle way'
   pub fed : IsFed taken reads reads' behaviour.tells tells' way way' [] []
 
+-- no header is known
+none_settled : {H : Type 0} {P : Type 0} (head : Option H) → head ≡ None → head ≢ None → P
+none_settled head e some = absurd (some e)
+
 pub begins : {H F : Type 0} (behaviour : Behaviour H F) (reads : Reads H F) (way : Way) (left : Option (List ℕ)) → behaviour.most ≤ 2 ^ 62 → IsFresh reads
     → HasBegun behaviour.tells → IsIdle way → IsAtRead behaviour reads reads behaviour.tells way way behaviour.most left left
 begins behaviour reads way left most fresh begun idle = record {
@@ -118,7 +122,7 @@ begins behaviour reads way left most fresh begun idle = record {
   most = most;
   begun = fresh;
   clear = idle;
-  ready = record { open_ended = begun.open_ended; counted = omega (arith, begun.count); settled = begun.settled; standing = ([], ([], fresh.stands)) };
+  ready = record { open_ended = begun.open_ended; counted = omega (arith, begun.count); settled = none_settled reads.head fresh.head; standing = ([], ([], fresh.stands)) };
   wants = refl;
   place = fresh.given;
   idle = idle;

@@ -1,5 +1,5 @@
 -- How far a run has come: what was fed and told, and what of the text is on its way.
-use Rattle.std.specs.Prelude.{◌<◌, IfOk, length, take, Result, Ok, Err, ◌≡◌, ℕ, ◌≤◌, Bool, true, false, List, [], ◌++◌, Option, Some, None}
+use Rattle.std.specs.Prelude.{◌<◌, ◌≢◌, IfOk, length, take, Result, Ok, Err, ◌≡◌, ℕ, ◌≤◌, Bool, true, false, List, [], ◌++◌, Option, Some, None}
 use Rattle.record_run.specs.declared.status.Status.{Status}
 use Rattle.record_run.specs.declared.status.Status.TheVariants.{Done, Usage, ReadFault, WriteFault, Memory, BadRecord, TooLong}
 use Rattle.record_run.specs.declared.reading.Stop.{Stop}
@@ -30,11 +30,12 @@ pub record IsPut {H F : Type 0} (old new : Tells H F) (way way' : Way) : Type 0 
   pub keeps : KeepsCount old new
   pub told : (head : H) → (text : List ℕ) × (GoesOn head [] text old new × Sends text way way')
 
--- between two calls the end has not come, no more frames were told than bytes given, and nothing is owed
+-- between two calls the end has not come, no more was counted than the bytes that stand whole, and behind the header
+-- nothing is owed
 pub record IsReady {H F : Type 0} (reads : Reads H F) (tells : Tells H F) : Type 0 where
   pub open_ended : tells.ended ≡ false
-  pub counted : tells.count ≤ reads.given
-  pub settled : IsSettled tells
+  pub counted : tells.count ≤ reads.whole
+  pub settled : reads.head ≢ None → IsSettled tells
   pub standing : IsStanding reads
 
 -- with the header, once it is known, the frames were told in the text; before, nothing was
@@ -63,7 +64,7 @@ pub record IsTold {H F : Type 0} (grammar : Grammar H F) (bytes : List ℕ) (rea
   pub stays : HeadStays reads.head head
   pub has : HasWhole grammar head (frames ++ later) (taken ++ bytes)
   pub going : IsGoing head later text tells tells'
-  pub settled : IsSettled tells'
+  pub settled : head ≢ None → IsSettled tells'
   pub sends : Sends text way way'
 
 -- since a field is wrong;

@@ -47,5 +47,6 @@ trial_tells trial = record {
   count = trial.told;
   owed = number_owed trial.owes;
   wants = trial.wants;
+  started = true;
   ended = trial.ended;
 }

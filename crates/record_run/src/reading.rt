@@ -1,5 +1,5 @@
-ghost use Rattle.std.specs.Prelude.{◌≡◌, ◌+◌, ◌<◌, ◌≤◌, ◌^◌, ◌++◌, ◌∷◌, ℕ, List, [], None, Some, Err, true, false, length, take, drop, OnOk, IfOk};
-ghost use Rattle.record_run.specs.Tells.{GoesOn, CountsOne, IsSettled};
+ghost use Rattle.std.specs.Prelude.{◌≡◌, ◌+◌, ◌<◌, ◌≤◌, ◌^◌, ◌++◌, ◌∷◌, ℕ, List, [], None, Some, Err, true, false, length, take, drop, IsErr, OnOk, IfOk};
+ghost use Rattle.record_run.specs.Tells.{GoesOn, KeepsCount, CountsFrame, IsSettled};
 ghost use Rattle.record_run.specs.Steps.{Way, way_of, Sends, IsPut, IsReady, HeadStays, IsFedAs, IsFedOnce};
 
 use crate::intake::Intake;
@@ -84,7 +84,7 @@ fn feed_once<I: Intake, T: Teller<I>, K: Sink>(
 {
     match intake.feed(bytes) {
         Ok((count, Event::More)) => Ok(count),
-        Ok((count, Event::Head)) => match teller.begin(alloc, intake) {
+        Ok((count, Event::Head)) => match tell_head(alloc, intake, teller, out, sink) {
             Ok(()) => Ok(count),
             Err(NoMemory) => Err(Stop::Memory),
         },
@@ -98,6 +98,33 @@ fn feed_once<I: Intake, T: Teller<I>, K: Sink>(
     }
 }
 
+// Tells of the header that is whole.
+fn tell_head<I: Intake, T: Teller<I>, K: Sink>(
+    alloc: Global,
+    intake: &I,
+    teller: &mut T,
+    out: &mut Outgoing,
+    sink: &mut K,
+) -> Result<(), NoMemory>
+    requires room { length out.old.text < 65536 }
+    requires known { (head : I.Head) × ((I.reads intake.now).head ≡ Some head) }
+    ensures memory { IsErr result → ((T.tells teller.old).wants ≡ true) × (sink.new ≡ sink.old) × (out.new ≡ out.old) }
+    ensures room { length out.new.text < 65536 }
+    ensures keeps { OnOk result (KeepsCount (T.tells teller.old) (T.tells teller.new)) }
+    ensures settled { OnOk result (IsSettled (T.tells teller.new)) }
+    ensures told { OnOk result ((head : I.Head) → (I.reads intake.now).head ≡ Some head →
+        (text : List ℕ) × (GoesOn head [] text (T.tells teller.old) (T.tells teller.new)
+        × Sends text (way_of out.old (K.held sink.old) (K.faults sink.old)) (way_of out.new (K.held sink.new) (K.faults sink.new)))) }
+{
+    match teller.begin(alloc, intake) {
+        Ok(()) => {
+            settle(alloc, teller, out, sink);
+            Ok(())
+        }
+        Err(NoMemory) => Err(NoMemory),
+    }
+}
+
 // Tells of the frame that is whole.
 fn tell_frame<I: Intake, T: Teller<I>, K: Sink>(
     alloc: Global,
@@ -107,12 +134,12 @@ fn tell_frame<I: Intake, T: Teller<I>, K: Sink>(
     sink: &mut K,
 )
     requires room { length out.old.text < 65536 }
-    requires count { (T.tells teller.old).count + 1 < 2 ^ 63 }
+    requires count { (frame : I.Frame) → (I.reads intake.now).frame ≡ Some frame → (T.tells teller.old).count + 1 + I.grammar.size frame < 2 ^ 63 }
     requires open { (T.tells teller.old).ended ≡ false }
     requires settled { IsSettled (T.tells teller.old) }
     requires whole { (head : I.Head) × (frame : I.Frame) × ((I.reads intake.now).head ≡ Some head) × ((I.reads intake.now).frame ≡ Some frame) }
     ensures room { length out.new.text < 65536 }
-    ensures counts { CountsOne (T.tells teller.old) (T.tells teller.new) }
+    ensures counts { (frame : I.Frame) → (I.reads intake.now).frame ≡ Some frame → CountsFrame (I.grammar.size frame) (T.tells teller.old) (T.tells teller.new) }
     ensures settled { IsSettled (T.tells teller.new) }
     ensures told { (head : I.Head) (frame : I.Frame) → (I.reads intake.now).head ≡ Some head → (I.reads intake.now).frame ≡ Some frame →
         (text : List ℕ) × (GoesOn head (frame ∷ []) text (T.tells teller.old) (T.tells teller.new)
@@ -138,6 +165,7 @@ pub(crate) fn settle<I: Intake, T: Teller<I>, K: Sink>(
     out: &mut Outgoing,
     sink: &mut K,
 )
+    requires { (T.tells teller.old).started ≡ true }
     ensures room { length out.new.text < 65536 }
     ensures settled { IsSettled (T.tells teller.new) }
     ensures put { IsPut (T.tells teller.old) (T.tells teller.new)

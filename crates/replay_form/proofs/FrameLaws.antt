@@ -1,10 +1,11 @@
 -- What the rules of the fields say of a whole frame's numbers.
-use Rattle.std.proofs.Common.{◌≡◌, ℕ, ◌+◌, ◌<◌, ◌≤◌, ◌^◌, List, length, drop, ◌∙◌, arith}
+use Rattle.std.proofs.Common.{◌≡◌, ℕ, suc, zero, ◌+◌, ◌<◌, ◌≤◌, ◌^◌, List, length, drop, ap, ◌∙◌, arith}
 use Rattle.std.proofs.lemmas.List.{length-drop}
-use Rattle.vrt_time.specs.Time.{TimeStamp}
+use Rattle.vrt_time.specs.Time.{TimeStamp, stamp_of}
 use Rattle.replay_form.specs.Numbers.{number_at}
 use Rattle.replay_form.proofs.NumberLaws.{number_at-take}
-use Rattle.replay_form.specs.FrameFields.{IsWholeFrame}
+use Rattle.replay_form.specs.FrameFields.{Frame, IsFrame, IsFrameGood, IsWholeFrame, frame_field}
+use Rattle.replay_form.specs.Record.{first_stamp}
 
 -- the stamp is one, not before the last, and the datagram has at most 65,535 bytes
 pub record FrameRanges (last : TimeStamp) (bytes : List ℕ) : Type 0 where
@@ -30,3 +31,24 @@ frame_ranges last bytes whole =
       size = omega (arith, whole.all);
       datagram = omega (arith, whole.all, length-drop 20 bytes);
     }
+
+-- a frame is one behind any that is not later, so behind none, too
+good_first : (last : TimeStamp) (bytes : List ℕ) (i : ℕ) → i < 6 → IsFrameGood last (frame_field i) bytes → IsFrameGood first_stamp (frame_field i) bytes
+good_first last bytes zero h g = record { there = g.there; right = omega arith }
+good_first last bytes (suc zero) h g = record { there = g.there; right = record { below = g.right.below; rising = λ e. omega arith } }
+good_first last bytes (suc (suc zero)) h g = record { there = g.there; right = tt }
+good_first last bytes (suc (suc (suc zero))) h g = record { there = g.there; right = g.right }
+good_first last bytes (suc (suc (suc (suc zero)))) h g = record { there = g.there; right = g.right }
+good_first last bytes (suc (suc (suc (suc (suc zero))))) h g = record { there = g.there; right = tt }
+good_first last bytes (suc (suc (suc (suc (suc (suc i)))))) h g = absurd (omega arith)
+
+pub whole_first : (last : TimeStamp) (bytes : List ℕ) → IsWholeFrame last bytes → IsWholeFrame first_stamp bytes
+whole_first last bytes whole = record { all = whole.all; right = λ i h. good_first last bytes i h (whole.right i h) }
+
+-- the frame that is held
+pub whole_framed : (last : TimeStamp) (bytes : List ℕ) (stamp : TimeStamp) → IsWholeFrame last bytes → stamp ≡ stamp_of (number_at 0 4 bytes) (number_at 4 8 bytes)
+    → IsFrame first_stamp (record { stamp = stamp; port = number_at 12 2 bytes; datagram = drop 20 bytes }) bytes
+whole_framed last bytes stamp whole is = record {
+  whole = whole_first last bytes whole;
+  told = ap (λ (s : TimeStamp). record { stamp = s; port = number_at 12 2 bytes; datagram = drop 20 bytes }) is;
+}

@@ -16,7 +16,8 @@ use Rattle.cam_field.specs.declared.ident.Ident.TheVariants as idents
 use Rattle.replay_form.specs.HeadFields.{IsStep, route_size, route_at, most_routes, first_magic, second_magic}
 use Rattle.replay_form.specs.HeadSpelling.{IsHeadStart, IsLimitSpelled, AreLimitsSpelled, IsRouteSpelled, AreRoutesSpelled, identity_form, identity_words, magic_of, size_of_head}
 use Rattle.replay_form.proofs.BoundLaws.{IsBound, bound_of_limit}
-use Rattle.replay_form.specs.HeadValues.{AreHeadValues, IsRoute}
+use Rattle.replay_form.specs.HeadValues.{AreHeadValues}
+use Rattle.vrt_fields.specs.Route.{IsRoute}
 use Rattle.replay_form.specs.declared.record_head.RecordHead.{RecordHead}
 use Rattle.replay_form.specs.Numbers.{number_at, AreNumbers}
 use Rattle.replay_form.proofs.NumberLaws.{number_at-drop, number_at-append}

@@ -21,7 +21,8 @@ use Rattle.replay_form.specs.HeadSpelling.{IsLimitSpelled, AreLimitsSpelled, IsS
 use Rattle.replay_form.proofs.HeadSpellingLaws.{length-routes_in, route_here, bound_there}
 use Rattle.replay_form.proofs.InitialLaws.{rule_of_word}
 use Rattle.replay_form.proofs.BoundLaws.{IsBound, bound_of_limit}
-use Rattle.replay_form.specs.HeadValues.{AreHeadValues, IsRoute, AreRoutes}
+use Rattle.replay_form.specs.HeadValues.{AreHeadValues}
+use Rattle.vrt_fields.specs.Route.{IsRoute, AreRoutes}
 use Rattle.replay_form.specs.declared.head_field.HeadField.TheVariants.{Magic, Initial, Stream}
 use Rattle.replay_form.specs.declared.record_head.RecordHead.{RecordHead}
 use Rattle.replay_form.proofs.HeadBytes.{AreHeadNumbers, head_bytes, head_bytes_fit, numbers_there}

@@ -15,7 +15,8 @@ use Rattle.replay_form.proofs.HeadLaws.{whole_ranges, head_profile, route_good}
 use Rattle.replay_form.specs.HeadSpelling.{IsLimitSpelled, identity_words}
 use Rattle.replay_form.proofs.HeadSpellingLaws.{head_start, head_form, identity_spelled, limits_spelled, routes_spelled, bound_there, route_here, length-routes_in, number_below}
 use Rattle.replay_form.proofs.BoundLaws.{IsBound, limit_of_bound}
-use Rattle.replay_form.specs.HeadValues.{AreHeadValues, IsRoute, AreRoutes}
+use Rattle.replay_form.specs.HeadValues.{AreHeadValues}
+use Rattle.vrt_fields.specs.Route.{IsRoute, AreRoutes}
 use Rattle.replay_form.specs.declared.head_field.HeadField.TheVariants.{Initial, Port, Stream}
 use Rattle.replay_form.specs.declared.record_head.RecordHead.{RecordHead}
 use Rattle.replay_form.proofs.FieldRules.{right_here}

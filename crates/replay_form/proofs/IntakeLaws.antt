@@ -1,10 +1,12 @@
 -- The reader of a record is an intake.
-use Rattle.std.proofs.Common.{◌≡◌, ℕ, inl, inr, Bool, true, false, List, ◌++◌, take, Option, Some, None, refl, sym, ap, ◌∙◌, subst, take_all, arith}
+use Rattle.std.proofs.Common.{◌≡◌, ℕ, ◌+◌, ◌<◌, length, drop, inl, inr, Bool, true, false, List, ◌++◌, take, Option, Some, None, refl, sym, ap, ◌∙◌, subst, take_all, arith}
 use Rattle.std.specs.Prelude.{if◌then◌else◌}
+use Rattle.std.proofs.lemmas.List.{length-drop}
 use Rattle.replay_form.specs.FrameFields.{Frame, IsFrameWrongAt}
 use Rattle.replay_form.specs.HeadFields.{IsHeadPart, IsHeadWrongAt}
 use Rattle.replay_form.specs.Head.{IsHead}
 use Rattle.replay_form.specs.Reading.{Reading, begun, held_frame, frames_after, StandsWith, StandsFor, IsStep, IsFailed, IsNewFault}
+use Rattle.replay_form.specs.Reading.{IsFrameRead as IsReaderFrame}
 use Rattle.replay_form.specs.Record.{IsRecordWrongAt}
 use Rattle.replay_form.specs.Verdict.{HasNoFault}
 use Rattle.replay_form.specs.declared.event.Event.{Event}
@@ -13,7 +15,7 @@ use Rattle.replay_form.specs.declared.event.RecordFault.{RecordFault}
 use Rattle.replay_form.specs.declared.record_head.RecordHead.{RecordHead}
 use Rattle.replay_form.proofs.RecordLaws.{cut-append, record_wrong-append}
 use Rattle.replay_form.proofs.ReadingLaws.{sound_stands, step_sound, not_both}
-use Rattle.replay_form.specs.Grammar.{HasWhole, IsWrong, IsLawful, AreReads}
+use Rattle.replay_form.specs.Grammar.{HasWhole, IsStanding, IsWrong, IsLawful, AreReads}
 use Rattle.replay_form.specs.Grammar.{IsStep as IsIntakeStep}
 use Rattle.replay_form.specs.RecordGrammar.{record_grammar, record_reads}
 
@@ -50,6 +52,7 @@ pub are_reads : (reading : Reading) → AreReads record_grammar (record_reads re
 are_reads reading = record {
   sound = λ taken frames s. sound_so_far reading taken frames s.0 s.1;
   has = λ taken frames s. has_so_far reading taken frames s.0 s.1;
+  within = omega arith;
 }
 
 pub record_lawful : IsLawful record_grammar
@@ -57,19 +60,39 @@ record_lawful = record { stays = λ bytes more offset w. (w.0, record_wrong-appe
 
 -- ---- one call
 
+-- in front of the header nothing stands whole
+none_whole : (reading : Reading) → reading.started ≡ false → IsStanding (record_reads reading) → reading.start ≡ 0
+none_whole reading first standing =
+    elim (sound_stands reading standing.0 standing.1.0 standing.1.1.0 standing.1.1.1) [
+      | inl b ↦ omega (arith, b.start, ap length b.bytes)
+      | inr g ↦ not_both reading.started g.started first
+    ]
+
+-- a frame has more bytes than its datagram
+datagram_within : (old : Reading) (piece : List ℕ) (count : ℕ) (new : Reading) → IsReaderFrame old piece count new
+    → old.start + length (held_frame new).datagram < new.start
+datagram_within old piece count new step =
+    let bytes = begun old ++ take count piece in
+    let start : new.start ≡ old.start + length bytes = ap (λ (r : Reading). r.start) step.after in
+    let held : length (drop 20 new.held) ≡ length (drop 20 bytes) = ap (λ (r : Reading). length (drop 20 r.held)) step.after in
+    omega (arith, start, held, length-drop 20 bytes, step.whole.all)
+
 pub intake_step : (old : Reading) (piece : List ℕ) (count : ℕ) (event : Event) (new : Reading) → IsStep old piece count event new
+    → IsStanding (record_reads old)
     → ((taken : List ℕ) (frames : List Frame) → StandsFor old taken frames → StandsFor new (taken ++ take count piece) (frames_after event frames new))
     → IsIntakeStep record_grammar event piece count (record_reads old) (record_reads new)
-intake_step old piece count events.More new step stands = record {
+intake_step old piece count events.More new step standing stands = record {
   all = step.all;
+  whole = ap (λ (r : Reading). r.start) step.after;
   head = ap (λ (r : Reading). (record_reads r).head) step.after;
   stands = λ taken frames s. (
     step_sound old piece count events.More new step,
     subst (λ l. StandsFor new (taken ++ l) frames) (take_all count piece (omega (arith, step.all))) (stands taken frames s.1),
   );
 }
-intake_step old piece count events.Head new step stands = record {
+intake_step old piece count events.Head new step standing stands = record {
   first = unknown old.started old.head step.first;
+  whole = omega (arith, none_whole old step.first standing);
   says = new.head;
   head = known new.started new.head (ap (λ (r : Reading). r.started) step.after);
   header = λ taken frames s.
@@ -79,12 +102,13 @@ intake_step old piece count events.Head new step stands = record {
       ];
   stands = λ taken frames s. (step_sound old piece count events.Head new step, stands taken frames s.1);
 }
-intake_step old piece count events.Frame new step stands = record {
+intake_step old piece count events.Frame new step standing stands = record {
   says = old.head;
   later = known old.started old.head step.later;
   head = known new.started new.head (ap (λ (r : Reading). r.started) step.after ∙ step.later) ∙ ap (λ (r : Reading). Some r.head) step.after;
   is = held_frame new;
   frame = whole_now new.whole (held_frame new) (ap (λ (r : Reading). r.whole) step.after);
+  whole = datagram_within old piece count new step;
   stands = λ taken frames s. (step_sound old piece count events.Frame new step, stands taken frames s.1);
 }
 

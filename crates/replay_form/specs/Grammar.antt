@@ -19,16 +19,20 @@ pub record Grammar (H F : Type 0) : Type 1 where
   pub has : H → List F → List ℕ → Type 0
   -- they are this header and these frames, and no more
   pub whole : H → List F → List ℕ → Type 0
+  -- how many bytes of a frame may be counted: fewer than it has
+  pub size : F → ℕ
 
 -- what stands whole in the bytes, of which the header may not be there yet
 abbrev pub HasWhole : {H F : Type 0} → Grammar H F → Option H → List F → List ℕ → Type 0
 HasWhole grammar None frames bytes = (frames ≡ []) × grammar.none bytes
 HasWhole grammar (Some head) frames bytes = grammar.has head frames bytes
 
--- What an intake knows: how many bytes it was given, what the header says, once it is whole, and the frame that the last call
--- made whole. It stands for bytes in which no field is wrong, and for the frames that stand whole in them.
+-- What an intake knows: how many bytes it was given, how many of them stand in the header and the frames that are whole, what the
+-- header says, once it is whole, and the frame that the last call made whole. It stands for bytes in which no field is wrong, and
+-- for the frames that stand whole in them.
 pub record Reads (H F : Type 0) : Type 1 where
   pub given : ℕ
+  pub whole : ℕ
   pub head : Option H
   pub frame : Option F
   pub stands : List ℕ → List F → Type 0
@@ -40,30 +44,33 @@ IsStanding {H} {F} reads = (taken : List ℕ) × ((frames : List F) × reads.sta
 -- One call, by its event. All bytes of the piece were taken, and nothing became whole;
 pub record IsMore {H F : Type 0} (piece : List ℕ) (count : ℕ) (old new : Reads H F) : Type 0 where
   pub all : count ≡ length piece
+  pub whole : new.whole ≡ old.whole
   pub head : new.head ≡ old.head
   pub stands : (taken : List ℕ) (frames : List F) → old.stands taken frames → new.stands (taken ++ piece) frames
 
 -- or the header did, with the last of so many bytes;
 pub record IsHeadRead {H F : Type 0} (grammar : Grammar H F) (piece : List ℕ) (count : ℕ) (old new : Reads H F) : Type 0 where
   pub first : old.head ≡ None
+  pub whole : old.whole ≤ new.whole
   pub says : H
   pub head : new.head ≡ Some says
   pub header : (taken : List ℕ) (frames : List F) → old.stands taken frames → grammar.header (taken ++ take count piece)
   pub stands : (taken : List ℕ) (frames : List F) → old.stands taken frames → new.stands (taken ++ take count piece) frames
 
 -- or a frame did.
-pub record IsFrameRead {H F : Type 0} (piece : List ℕ) (count : ℕ) (old new : Reads H F) : Type 0 where
+pub record IsFrameRead {H F : Type 0} (grammar : Grammar H F) (piece : List ℕ) (count : ℕ) (old new : Reads H F) : Type 0 where
   pub says : H
   pub later : old.head ≡ Some says
   pub head : new.head ≡ Some says
   pub is : F
   pub frame : new.frame ≡ Some is
+  pub whole : old.whole + grammar.size is < new.whole
   pub stands : (taken : List ℕ) (frames : List F) → old.stands taken frames → new.stands (taken ++ take count piece) (frames ++ is ∷ [])
 
 abbrev pub IsStep : {H F : Type 0} → Grammar H F → Event → List ℕ → ℕ → Reads H F → Reads H F → Type 0
 IsStep grammar events.More piece count old new = IsMore piece count old new
 IsStep grammar events.Head piece count old new = IsHeadRead grammar piece count old new
-IsStep grammar events.Frame piece count old new = IsFrameRead piece count old new
+IsStep grammar events.Frame piece count old new = IsFrameRead grammar piece count old new
 
 -- so many of the bytes were taken, and no more than there are
 pub record TakesFront {H F : Type 0} (piece : List ℕ) (count : ℕ) (old new : Reads H F) : Type 0 where
@@ -85,10 +92,11 @@ pub record IsFresh {H F : Type 0} (reads : Reads H F) : Type 0 where
 pub record IsLawful {H F : Type 0} (grammar : Grammar H F) : Type 0 where
   pub stays : (bytes more : List ℕ) (offset : ℕ) → grammar.wrong bytes offset → grammar.wrong (bytes ++ more) offset
 
--- no field is wrong so far, and these frames stand whole
+-- no field is wrong so far, these frames stand whole, and no more bytes stand whole than were given
 pub record AreReads {H F : Type 0} (grammar : Grammar H F) (reads : Reads H F) : Type 0 where
   pub sound : (taken : List ℕ) (frames : List F) → reads.stands taken frames → grammar.sound taken
   pub has : (taken : List ℕ) (frames : List F) → reads.stands taken frames → HasWhole grammar reads.head frames taken
+  pub within : reads.whole ≤ reads.given
 
 -- ---- what bytes are of which the first ones alone are judged
 

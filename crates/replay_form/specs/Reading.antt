@@ -5,7 +5,7 @@ use Rattle.vrt_fields.specs.declared.route.Route.{Route}
 use Rattle.replay_form.specs.Numbers.{number_at}
 use Rattle.replay_form.specs.Head.{IsHead, IsSpelledHead}
 use Rattle.replay_form.specs.HeadFields.{IsHeadPart, IsHeadOpen, IsHeadWrongAt}
-use Rattle.replay_form.specs.FrameFields.{Frame, frame_in, IsWholeFrame, IsFramePart, IsFrameWrongAt}
+use Rattle.replay_form.specs.FrameFields.{Frame, frame_in, IsFrame, IsWholeFrame, IsFramePart, IsFrameWrongAt}
 use Rattle.replay_form.specs.Record.{first_stamp, last_stamp, IsOpen, IsRecordWrongAt}
 use Rattle.replay_form.specs.declared.record_head.RecordHead.{RecordHead}
 use Rattle.replay_form.specs.declared.event.Event.{Event}
@@ -106,6 +106,10 @@ pub record KeepsHead (old new : Reading) : Type 0 where
   pub started : new.started ≡ old.started
   pub head : new.head ≡ old.head
 
+-- the frame that is whole
+abbrev pub held_frame : Reading → Frame
+held_frame reading = record { stamp = reading.last; port = number_at 12 2 reading.held; datagram = drop 20 reading.held }
+
 -- what the reader keeps true, with the number of the header's fields that are judged, and the room for bytes and routes
 pub record Keeps (reading : Reading) (judged held_room routes_room : ℕ) (routes : List Route) : Type 0 where
   pub held_fit : 65555 ≤ held_room
@@ -116,6 +120,7 @@ pub record Keeps (reading : Reading) (judged held_room routes_room : ℕ) (route
   pub frame_open : reading.fault ≡ None → reading.started ≡ true → IsFramePart reading.last (begun reading)
   pub spelled : reading.started ≡ true → IsSpelledHead reading.head
   pub frame_there : reading.whole ≡ true → 20 ≤ length reading.held
+  pub framed : reading.whole ≡ true → IsFrame first_stamp (held_frame reading) reading.held
   pub idle : IsSome reading.fault → reading.whole ≡ false
   pub small : reading.fault ≡ None → reading.start + length (begun reading) < 2 ^ 63
 
@@ -128,10 +133,6 @@ pub record IsFinished (reading : Reading) : Type 0 where
   pub sound : reading.fault ≡ None
   pub started : reading.started ≡ true
   pub nothing : begun reading ≡ []
-
--- the frame that is whole
-abbrev pub held_frame : Reading → Frame
-held_frame reading = record { stamp = reading.last; port = number_at 12 2 reading.held; datagram = drop 20 reading.held }
 
 -- the frames after a call
 abbrev pub frames_after : Event → List Frame → Reading → List Frame

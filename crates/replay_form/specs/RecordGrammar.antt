@@ -18,12 +18,14 @@ record_grammar = record {
   none = HasNoHead;
   has = HasFrames;
   whole = IsRecord;
+  size = λ frame. length frame.datagram;
 }
 
 -- what a reader of a record knows, while no field is wrong
 abbrev pub record_reads : Reading → Reads RecordHead Frame
 record_reads reading = record {
   given = reading.start + length (begun reading);
+  whole = reading.start;
   head = if reading.started then Some reading.head else None;
   frame = if reading.whole then Some (held_frame reading) else None;
   stands = λ taken frames. (reading.fault ≡ None) × StandsFor reading taken frames;

@@ -1,7 +1,7 @@
 ghost use Rattle.std.specs.Prelude.{◌≡◌, ◌+◌, ◌*◌, ◌<◌, ◌≤◌, ◌^◌, ◌++◌, ◌↔◌, ◌⊎◌, ℕ, List, [], None, false, true, length, take, MatchOption, IfSome, IfOk, OnOk, IfErr, OnErr};
 ghost use Rattle.replay_form.specs.Head.{IsSpelledHead};
 ghost use Rattle.replay_form.specs.HeadValues.{AreHeadValues};
-ghost use Rattle.replay_form.specs.FrameFields.{Frame, IsWholeFrame};
+ghost use Rattle.replay_form.specs.FrameFields.{Frame, IsFrame, IsWholeFrame};
 ghost use Rattle.replay_form.specs.Numbers.{number_at};
 ghost use Rattle.replay_form.specs.Reading.{StandsFor, IsFresh, IsStep, IsFailed, IsNewFault, IsFinished, IsUnfinished, KeepsHead, begun, frames_after, held_frame};
 ghost use Rattle.replay_form.specs.Record.{IsRecord, IsRecordWrongAt, EndsInside, first_stamp};
@@ -118,13 +118,23 @@ impl RecordReader {
     /// The frame that the last call of `feed` made whole, if it did: when the datagram came, on which
     /// port, and its bytes.
     pub fn frame(&self) -> Option<(Stamp, u16, &[u8])>
-        ensures { MatchOption result (self.now.whole ≡ false) (λ frame. (self.now.whole ≡ true)
+        ensures held { MatchOption result (self.now.whole ≡ false) (λ frame. (self.now.whole ≡ true)
             × (held_frame self.now ≡ record { stamp = frame.0; port = frame.1; datagram = frame.2.now })) }
+        ensures most { IfSome result (λ frame. length frame.2.now ≤ 65535) }
     {
         if !self.whole {
             return None;
         }
         Some((self.last, u16_at(&self.held, 12), &self.held[FRAME_HEAD..]))
+    }
+
+    /// The bytes of that frame, as they stand in the record.
+    pub fn frame_bytes(&self) -> Option<&[u8]>
+        ensures frame { MatchOption result (self.now.whole ≡ false) (λ bytes. (self.now.whole ≡ true)
+            × IsFrame first_stamp (held_frame self.now) bytes.now) }
+        ensures most { IfSome result (λ bytes. length bytes.now ≤ 65555) }
+    {
+        if self.whole { Some(&self.held) } else { None }
     }
 
     /// Whether the bytes given are a record.

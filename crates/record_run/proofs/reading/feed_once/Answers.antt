@@ -19,7 +19,7 @@ returns-in-Ok-clause-fed g c = λ taken frames stands. record {
   is = refl;
   some = c.in-Ok-default-Head.ensures.progress c.requires.some;
   few = c.in-Ok-default-Head.ensures.front.few;
-  fed = head_fed g.I.Intake.grammar c.args.bytes.now c.in-Ok-default-Head.count _ _ _ _ _ taken frames (subst (λ (e : Event). IsStep g.I.Intake.grammar e c.args.bytes.now c.in-Ok-default-Head.count (g.I.Intake.reads c.args.intake.now) (g.I.Intake.reads c.feed.new.self)) c.in-Ok-default-Head.field-0-1-is c.in-Ok-default-Head.ensures.step) stands c.in-Ok.ensures.goes;
+  fed = head_fed g.I.Intake.grammar c.args.bytes.now c.in-Ok-default-Head.count _ _ _ _ _ _ taken frames (subst (λ (e : Event). IsStep g.I.Intake.grammar e c.args.bytes.now c.in-Ok-default-Head.count (g.I.Intake.reads c.args.intake.now) (g.I.Intake.reads c.feed.new.self)) c.in-Ok-default-Head.field-0-1-is c.in-Ok-default-Head.ensures.step) stands c.in-Ok.ensures.told;
 }
 
 pub returns-in-Ok-default-Frame-clause-fed : goal.returns-in-Ok-default-Frame-clause-fed
@@ -29,7 +29,7 @@ returns-in-Ok-default-Frame-clause-fed g c = λ taken frames stands.
       is = refl;
       some = c.in-Ok-default-Frame.ensures.progress c.requires.some;
       few = c.in-Ok-default-Frame.ensures.front.few;
-      fed = frame_fed c.args.bytes.now c.in-Ok-default-Frame.count _ _ _ _ _ _ taken frames read stands (c.tell_frame.ensures.told read.says read.is read.head read.frame);
+      fed = frame_fed g.I.Intake.grammar c.args.bytes.now c.in-Ok-default-Frame.count _ _ _ _ _ _ taken frames read stands (c.tell_frame.ensures.told read.says read.is read.head read.frame);
     }
 
 pub returns-in-Err-clause-fed : goal.returns-in-Err-clause-fed

@@ -1,6 +1,10 @@
 use Rattle.std.proofs.Common.{◌++◌, [], ◌∷◌}
-use Rattle.record_run.proofs.Going.{goes_on, sends_on, sends_put}
+use Rattle.record_run.proofs.Going.{counts_on, goes_on, sends_on, sends_put}
 use Rattle.record_run.proofs.reading.tell_frame.Goals as goal
+
+pub returns-clause-counts : goal.returns-clause-counts
+returns-clause-counts g c = λ frame whole.
+    counts_on (g.I.Intake.grammar.size frame) _ _ _ (c.frame.ensures.counts frame whole) c.settle.ensures.put.keeps
 
 pub returns-clause-told : goal.returns-clause-told
 returns-clause-told g c = λ head frame known whole.

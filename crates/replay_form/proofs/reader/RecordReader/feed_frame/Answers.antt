@@ -2,7 +2,10 @@
 use Rattle.std.proofs.Common.{◌≡◌, ◌<◌, ◌+◌, ◌^◌, ◌∙◌, if◌then◌else◌, [], length, take, sym, ap, true, false, None, vec_len, length-append, arith}
 use Rattle.std.proofs.lemmas.Grind.{common_steps}
 use Rattle.std.proofs.lemmas.List.{length-take-le}
+use Rattle.vrt_time.specs.Time.{stamp_of}
+use Rattle.replay_form.specs.Numbers.{number_at}
 use Rattle.replay_form.proofs.RecordLaws.{nothing_open}
+use Rattle.replay_form.proofs.FrameLaws.{whole_framed}
 use Rattle.replay_form.specs.Reading.{Reading, begun}
 use Rattle.replay_form.proofs.reader.RecordReader.feed_frame.Goals as goal
 
@@ -33,6 +36,7 @@ invariant_of-self-in-Ok-Whole c =
       frame_open = λ s h. nothing_open _;
       spelled = inv.spelled;
       frame_there = λ h. omega (arith, taken.whole.all);
+      framed = λ h. whole_framed _ new _ taken.whole (c.stamp_in-self-inside.ensures ∙ ap (λ b. stamp_of (number_at 0 4 b) (number_at 4 8 b)) c.deref.ensures.value);
       idle = λ some. grind (arith, common_steps);
       small = λ s. omega arith;
     }
