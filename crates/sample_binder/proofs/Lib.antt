@@ -22,3 +22,4 @@ pub mod PartLemmas
 pub mod GrowLemmas
 pub mod LabelLemmas
 pub mod TotalLemmas
+pub mod TurnedLemmas

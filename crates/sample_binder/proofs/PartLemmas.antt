@@ -20,7 +20,7 @@ use Rattle.sample_binder.proofs.BinderLemmas.{data_size, events_of-more}
 use Rattle.sample_binder.proofs.EventLemmas.{every-append, every-drop, IsSoundPacket, IsSoundEvent, contexts_sound, packets_sound, events_sound}
 use Rattle.sample_binder.proofs.MarkLemmas.{IsSoundContext}
 use Rattle.sample_binder.proofs.PrefixLaws.{outputs-prefix, one_more_owes}
-use Rattle.sample_binder.proofs.WritableLemmas.{runs_left}
+use Rattle.sample_binder.proofs.WritableLemmas.{AreLeft, runs_left}
 
 abbrev pub part_of : Line → Reason → Pending → Part
 part_of line why packet = record { buf = packet.buf; lost = packet.lost; runs = runs_of line why packet.shape }
@@ -98,9 +98,14 @@ later_packets limits events later =
 -- ---- packets that were given
 
 module _ (profile : PacketProfile) (all : List Call) where
-  pub part_whole : (kept : ℕ) (es : List Event) → AllByRecursion (IsSoundEvent profile all) es → (packet : Pending) → IsSoundPacket profile all packet
-      → IsWhole all (part_of (line_after kept es) (open_reason (has_ended es)) packet)
-  part_whole kept es sound packet h =
+  -- a packet, and what it leaves in
+  pub record LeavesIn (part : Part) : Type 0 where
+    pub size : HasDataSize part.buf.bytes
+    pub left : AreLeft (length (payload_of part.buf.bytes)) part.runs
+
+  pub leaves_in : (kept : ℕ) (es : List Event) → AllByRecursion (IsSoundEvent profile all) es → (packet : Pending) → IsSoundPacket profile all packet
+      → LeavesIn (part_of (line_after kept es) (open_reason (has_ended es)) packet)
+  leaves_in kept es sound packet h =
       let bytes = packet.buf.bytes in
       let size : HasDataSize bytes = data_size profile bytes h.buf.grammar in
       let shape = ap (λ s. s.words) h.shape_is in
@@ -108,8 +113,13 @@ module _ (profile : PacketProfile) (all : List Call) where
       let payload : length (payload_of bytes) ≡ 4 * packet.shape.words = omega (arith, length-drop 28 bytes, size.whole, size.least, shape) in
       let contexts = contexts_of es in
       let kept_sound = every-drop IsSoundContext (length contexts - kept) contexts (contexts_sound profile all es sound) in
-      let left = runs_left (length (payload_of bytes)) packet.shape (omega (arith, shape, size.least)) fits payload (line_after kept es) (has_ended es) kept_sound in
-      record { given = h.buf.given; size = size; lost = h.lost; some = left.some; runs = left.writable; few = left.few }
+      record { size = size; left = runs_left (length (payload_of bytes)) packet.shape (omega (arith, shape, size.least)) fits payload (line_after kept es) (has_ended es) kept_sound }
+
+  pub part_whole : (kept : ℕ) (es : List Event) → AllByRecursion (IsSoundEvent profile all) es → (packet : Pending) → IsSoundPacket profile all packet
+      → IsWhole all (part_of (line_after kept es) (open_reason (has_ended es)) packet)
+  part_whole kept es sound packet h =
+      let l = leaves_in kept es sound packet h in
+      record { given = h.buf.given; size = l.size; lost = h.lost; some = l.left.some; runs = l.left.writable; few = l.left.few }
 
   each_whole : (kept : ℕ) (es : List Event) → AllByRecursion (IsSoundEvent profile all) es → (packets : List Pending) → AllByRecursion (IsSoundPacket profile all) packets
       → AllByRecursion (λ (packet : Pending). IsWhole all (part_of (line_after kept es) (open_reason (has_ended es)) packet)) packets

@@ -1,4 +1,4 @@
--- The samples of a stream are at most the bytes of its payloads.
+-- The samples and the whole packets of a stream are at most the bytes of its payloads.
 use Rattle.std.proofs.Common.{◌≡◌, ℕ, suc, zero, ◌+◌, ◌≤◌, nat_lt, Bool, true, false, cond, List, [], ◌∷◌, ◌++◌, length, take, drop, fold, map, slice_get, Option, Some, None, IfSome, refl, sym, ap, ◌∙◌, subst, arith}
 use Rattle.std.proofs.lemmas.List.{take-append-drop}
 use Rattle.std.specs.List.{AllByRecursion}
@@ -16,13 +16,14 @@ use Rattle.sample_binder.specs.Calls.{Call, ContextCall, DataCall, EndCall, data
 use Rattle.sample_binder.specs.Due.{due}
 use Rattle.sample_binder.specs.Events.{Event, packets_of, has_ended, line_after}
 use Rattle.sample_binder.specs.Outputs.{open_reason, leaves_after, leaves_at, leaves, outputs_of_first, outputs}
-use Rattle.sample_binder.specs.Parts.{IsCallOf, AreCallsOf, payload_of, samples_of, samples_in, samples_told, payload_bytes}
+use Rattle.sample_binder.specs.Parts.{IsCallOf, AreCallsOf, payload_of, samples_of, samples_told, counted_of, counted_in, counted_told, payload_bytes}
+use Rattle.sample_binder.specs.declared.run.Run.TheVariants as run
 use Rattle.sample_binder.specs.Released.{released_packet}
 use Rattle.sample_binder.specs.Runs.{runs_of}
 use Rattle.sample_binder.proofs.EventLemmas.{every-append, every-take, IsSoundPacket, IsSoundEvent, packets_sound, events_sound}
 use Rattle.sample_binder.proofs.GrowLemmas.{are_releases, are_all_releases}
 use Rattle.sample_binder.proofs.MarkLemmas.{each_at}
-use Rattle.sample_binder.proofs.PartLemmas.{part_whole}
+use Rattle.sample_binder.proofs.PartLemmas.{leaves_in}
 use Rattle.sample_binder.proofs.StateLemmas.{packets_of-append}
 
 -- ---- sums
@@ -117,16 +118,16 @@ arrivals_total (ContextCall rec ∷ calls) = arrivals_total calls
 arrivals_total (DataCall buf ∷ calls) = ap (λ n. bytes_in buf + n) (arrivals_total calls)
 arrivals_total (EndCall ∷ calls) = arrivals_total calls
 
--- ---- samples
+-- ---- what counts: samples, and whole packets
 
-told-append : (xs ys : List Out) → samples_told (xs ++ ys) ≡ samples_told xs + samples_told ys
+told-append : (xs ys : List Out) → counted_told (xs ++ ys) ≡ counted_told xs + counted_told ys
 told-append [] ys = omega arith
 told-append (out.Packet buf lost ∷ xs) ys = told-append xs ys
 told-append (out.Run run ∷ xs) ys = omega (arith, told-append xs ys)
 
-told-runs : (runs : List Run) → samples_told (map out.Run runs) ≡ samples_in runs
+told-runs : (runs : List Run) → counted_told (map out.Run runs) ≡ counted_in runs
 told-runs [] = refl
-told-runs (run ∷ runs) = ap (λ n. samples_of run + n) (told-runs runs)
+told-runs (run ∷ runs) = ap (λ n. counted_of run + n) (told-runs runs)
 
 prefix_get : {X : Type 0} (xs ys : List X) (j : ℕ) (x : X) → slice_get xs j ≡ Some x → slice_get (xs ++ ys) j ≡ Some x
 prefix_get [] ys zero x e = absurd (cc)
@@ -135,34 +136,34 @@ prefix_get (y ∷ xs) ys zero x e = e
 prefix_get (y ∷ xs) ys (suc j) x e = prefix_get xs ys j x e
 
 module _ (profile : PacketProfile) (all : List Call) (limits : Limits) (events : List Event) (sound : AllByRecursion (IsSoundEvent profile all) events) where
-  -- the samples of one packet are at most its bytes
-  told_after : (j n : ℕ) (o : Option Pending) → slice_get (packets_of (take n events)) j ≡ o → samples_told (leaves_after limits.kept (take n events) o) ≤ of_one of_packet (slice_get (packets_of events) j)
+  -- what one packet counts is at most its bytes
+  told_after : (j n : ℕ) (o : Option Pending) → slice_get (packets_of (take n events)) j ≡ o → counted_told (leaves_after limits.kept (take n events) o) ≤ of_one of_packet (slice_get (packets_of events) j)
   told_after j n None e = omega arith
   told_after j n (Some packet) e =
       let es = take n events in
       let front = every-take (IsSoundEvent profile all) n events sound in
       let at : IsSoundPacket profile all packet = subst (λ (o : Option Pending). IfSome o (IsSoundPacket profile all)) e (each_at (IsSoundPacket profile all) (packets_of es) j (packets_sound profile all es front)) in
-      let few = (part_whole profile all limits.kept es front packet at).few in
+      let few = (leaves_in profile all limits.kept es front packet at).left.counted in
       let split = ap packets_of (sym (take-append-drop n events)) ∙ packets_of-append es (drop n events) in
       let there : slice_get (packets_of events) j ≡ Some packet = ap (λ (ps : List Pending). slice_get ps j) split ∙ prefix_get (packets_of es) (packets_of (drop n events)) j packet e in
       omega (arith, few, told-runs (runs_of (line_after limits.kept es) (open_reason (has_ended es)) packet.shape), ap (of_one of_packet) there)
 
-  told_at : (j : ℕ) (o : Option ℕ) → samples_told (leaves_at limits events j o) ≤ of_one of_packet (slice_get (packets_of events) j)
+  told_at : (j : ℕ) (o : Option ℕ) → counted_told (leaves_at limits events j o) ≤ of_one of_packet (slice_get (packets_of events) j)
   told_at j None = omega arith
   told_at j (Some e) = told_after j (suc e) (slice_get (packets_of (take (suc e) events)) j) refl
 
-  told_first : (n : ℕ) → samples_told (outputs_of_first limits events n) ≤ total of_packet (take n (packets_of events))
+  told_first : (n : ℕ) → counted_told (outputs_of_first limits events n) ≤ total of_packet (take n (packets_of events))
   told_first zero = omega arith
   told_first (suc n) =
       omega (arith, told_first n, told_at n (due limits events n), told-append (outputs_of_first limits events n) (leaves limits events n), total-one_more of_packet n (packets_of events))
 
-  told_all : samples_told (outputs limits events) ≤ total of_packet (packets_of events)
+  told_all : counted_told (outputs limits events) ≤ total of_packet (packets_of events)
   told_all = omega (arith, told_first (length (packets_of events)), total-take of_packet (length (packets_of events)) (packets_of events))
 
 -- ---- of calls
 
-pub samples_arriving : (profile : PacketProfile) (limits : Limits) (calls : List Call) → AreCallsOf profile calls → is_told calls ≡ false → samples_told (outputs_of limits calls) ≤ payload_bytes calls
-samples_arriving profile limits calls h off =
+pub counted_arriving : (profile : PacketProfile) (limits : Limits) (calls : List Call) → AreCallsOf profile calls → is_told calls ≡ false → counted_told (outputs_of limits calls) ≤ payload_bytes calls
+counted_arriving profile limits calls h off =
     let rs = releases limits.data_window (data_arrivals calls) 0 in
     omega (
       arith,
@@ -173,8 +174,8 @@ samples_arriving profile limits calls h off =
       arrivals_total calls,
     )
 
-pub samples_ending : (profile : PacketProfile) (limits : Limits) (calls : List Call) → AreCallsOf profile calls → is_told calls ≡ false → samples_told (outputs_of limits (calls ++ EndCall ∷ [])) ≤ payload_bytes calls
-samples_ending profile limits calls h off =
+pub counted_ending : (profile : PacketProfile) (limits : Limits) (calls : List Call) → AreCallsOf profile calls → is_told calls ≡ false → counted_told (outputs_of limits (calls ++ EndCall ∷ [])) ≤ payload_bytes calls
+counted_ending profile limits calls h off =
     let more = calls ++ EndCall ∷ [] in
     let sound = events_sound profile more limits (every-append (IsCallOf profile) calls (EndCall ∷ []) h (tt, tt)) in
     omega (
@@ -185,3 +186,21 @@ samples_ending profile limits calls h off =
       total-all bytes_in limits.data_window (data_arrivals calls),
       arrivals_total calls,
     )
+
+-- ---- samples alone
+
+run_few : (run : Run) → samples_of run ≤ counted_of run
+run_few (run.Bound stamp first number moment fields bits) = omega arith
+run_few (run.Uncertain reason stamp first number moment bits) = omega arith
+run_few (run.Raw reason stamp pad) = omega arith
+
+samples_few : (outs : List Out) → samples_told outs ≤ counted_told outs
+samples_few [] = omega arith
+samples_few (out.Packet buf lost ∷ outs) = samples_few outs
+samples_few (out.Run run ∷ outs) = omega (arith, run_few run, samples_few outs)
+
+pub samples_arriving : (profile : PacketProfile) (limits : Limits) (calls : List Call) → AreCallsOf profile calls → is_told calls ≡ false → samples_told (outputs_of limits calls) ≤ payload_bytes calls
+samples_arriving profile limits calls h off = omega (arith, samples_few (outputs_of limits calls), counted_arriving profile limits calls h off)
+
+pub samples_ending : (profile : PacketProfile) (limits : Limits) (calls : List Call) → AreCallsOf profile calls → is_told calls ≡ false → samples_told (outputs_of limits (calls ++ EndCall ∷ [])) ≤ payload_bytes calls
+samples_ending profile limits calls h off = omega (arith, samples_few (outputs_of limits (calls ++ EndCall ∷ [])), counted_ending profile limits calls h off)

@@ -15,7 +15,7 @@ use Rattle.sample_binder.specs.declared.reason.Reason.TheVariants as reason
 use Rattle.sample_binder.specs.declared.run.Run.{Run}
 use Rattle.sample_binder.specs.declared.shape.Shape.{Shape}
 use Rattle.sample_binder.specs.Outputs.{open_reason}
-use Rattle.sample_binder.specs.Parts.{samples_of, samples_in}
+use Rattle.sample_binder.specs.Parts.{samples_of, samples_in, counted_of, counted_in}
 use Rattle.sample_binder.specs.Queue.{IsShape}
 use Rattle.sample_binder.specs.Readings.{AreStretches}
 use Rattle.sample_binder.specs.Reasons.{number_of as number_of_reason, IsInTable}
@@ -32,6 +32,7 @@ pub record AreLeft (payload : ℕ) (runs : List Run) : Type 0 where
   pub some : runs ≢ []
   pub writable : AllByRecursion (IsWritable payload) runs
   pub few : samples_in runs ≤ payload
+  pub counted : counted_in runs ≤ payload
 
 -- ---- labels
 
@@ -64,6 +65,10 @@ run_samples : (l : Label) (shape : Shape) (fields : List ℕ) (s : ℕ × ℕ) �
 run_samples (label.Bound place f) shape fields s = refl
 run_samples (label.Uncertain reason) shape fields s = refl
 
+run_counted : (l : Label) (shape : Shape) (fields : List ℕ) (s : ℕ × ℕ) → counted_of (run_by l shape.stamp fields s) ≡ s.1
+run_counted (label.Bound place f) shape fields s = refl
+run_counted (label.Uncertain reason) shape fields s = refl
+
 module _ (payload : ℕ) (shape : Shape) (some : 1 ≤ shape.words) (fits : IsShape shape) (whole : payload ≡ 4 * shape.words) where
   -- ---- a packet as a whole
 
@@ -72,6 +77,7 @@ module _ (payload : ℕ) (shape : Shape) (some : 1 ≤ shape.words) (fits : IsSh
     some = λ e. absurd (cc);
     writable = (record { obeys = record { in_table = table; whole_packet = other; pad_most = fits.pad }; goes = record { some = omega arith; whole = omega arith } }, tt);
     few = omega arith;
+    counted = omega arith;
   }
 
   open_left : (ended : Bool) → AreLeft payload (raw (open_reason ended) shape)
@@ -131,6 +137,10 @@ module _ (payload : ℕ) (shape : Shape) (some : 1 ≤ shape.words) (fits : IsSh
     cut_samples [] m h = omega (arith, h)
     cut_samples (s ∷ xs) m h = omega (arith, cut_samples xs (m + s.1) h.2, run_samples (labels s.0) shape fields s)
 
+    cut_counted : (xs : List (ℕ × ℕ)) (m : ℕ) → AreStretches labels number m xs → m + counted_in (map (run_at line (open_reason ended) shape.stamp fields) xs) ≡ number
+    cut_counted [] m h = omega (arith, h)
+    cut_counted (s ∷ xs) m h = omega (arith, cut_counted xs (m + s.1) h.2, run_counted (labels s.0) shape fields s)
+
     cut_some : (xs : List (ℕ × ℕ)) → AreStretches labels number 0 xs → 0 < number → map (run_at line (open_reason ended) shape.stamp fields) xs ≢ []
     cut_some [] h lt e = absurd (omega (arith, h))
     cut_some (s ∷ xs) h lt e = absurd (cc)
@@ -143,6 +153,7 @@ module _ (payload : ℕ) (shape : Shape) (some : 1 ≤ shape.words) (fits : IsSh
           some = cut_some xs h lt;
           writable = cut_writable xs 0 h;
           few = omega (arith, cut_samples xs 0 h, eight);
+          counted = omega (arith, cut_counted xs 0 h, eight);
         }
 
   module _ (line : Line) (ended : Bool) (sound : AllByRecursion IsSoundContext line.kept) where

@@ -61,6 +61,22 @@ samples_told [] = 0
 samples_told (out.Packet buf lost ∷ outs) = samples_told outs
 samples_told (out.Run run ∷ outs) = samples_of run + samples_told outs
 
+-- how much a run counts: its samples, or a whole packet as one
+abbrev pub counted_of : Run → ℕ
+counted_of (run.Bound stamp first number moment fields bits) = number
+counted_of (run.Uncertain reason stamp first number moment bits) = number
+counted_of (run.Raw reason stamp pad) = 1
+
+abbrev pub counted_in : List Run → ℕ
+counted_in [] = 0
+counted_in (run ∷ runs) = counted_of run + counted_in runs
+
+-- and how much outputs count
+abbrev pub counted_told : List Out → ℕ
+counted_told [] = 0
+counted_told (out.Packet buf lost ∷ outs) = counted_told outs
+counted_told (out.Run run ∷ outs) = counted_of run + counted_told outs
+
 -- how many bytes the payloads have that calls give
 abbrev pub payload_bytes : List Call → ℕ
 payload_bytes [] = 0

@@ -1,4 +1,5 @@
-ghost use Rattle.std.specs.Prelude.{◌≡◌, ℕ, ◌≤◌, ◌↔◌, List, [], ◌∷◌, ◌++◌, false, length, Some};
+ghost use Rattle.std.specs.Prelude.{◌≡◌, ℕ, ◌≤◌, ◌↔◌, Bool, List, [], ◌∷◌, ◌++◌, false, length, Some, Err};
+ghost use Rattle.vrt_words.specs.Buffer.{Buffer};
 ghost use Rattle.vrt_words.specs.Begins.{IsDatagram};
 ghost use Rattle.vrt_header.specs.Profile.{PacketProfile};
 ghost use Rattle.difi_data.specs.Data.{DataPacket, IsData};
@@ -6,11 +7,12 @@ ghost use Rattle.sample_binder.specs.declared.label.Label.{Label};
 ghost use Rattle.vrt_fields.specs.declared.limits.Limits.{Limits};
 ghost use Rattle.sample_binder.specs.declared.out.Out.{Out};
 ghost use Rattle.sample_binder.specs.Binder.{Bound, StandsFor};
-ghost use Rattle.sample_binder.specs.Calls.{Call, EndCall, is_told, behind, all_releases, events_by, events_of, outputs_of, given_by};
+ghost use Rattle.sample_binder.specs.Calls.{Call, ContextCall, DataCall, EndCall, context_arrivals, data_arrivals, context_entry, data_entry, is_told, behind, all_releases, events_by, events_of, outputs_of, given_by, outcome};
+ghost use Rattle.sample_binder.specs.declared.turned.Turned.{Turned};
 ghost use Rattle.sample_binder.specs.Due.{due};
 ghost use Rattle.sample_binder.specs.Events.{Event};
 ghost use Rattle.sample_binder.specs.Outputs.{outputs};
-ghost use Rattle.sample_binder.specs.Parts.{AreCallsOf, AreWhole, AreParts, AnyPart, samples_told, payload_bytes};
+ghost use Rattle.sample_binder.specs.Parts.{AreCallsOf, AreWhole, AreParts, AnyPart, samples_told, counted_told, payload_bytes};
 ghost use Rattle.sample_binder.specs.Runs.{cut};
 ghost use Rattle.sample_binder.specs.Readings.{AreReleases, AreAllReleases, IsDueEvent, AreStretches, IsRead};
 ghost use Rattle.sample_binder.specs.Given.{IsDataOf, HasDataSize};
@@ -18,7 +20,7 @@ ghost use Rattle.sample_binder.specs.Sound.{HasSampling};
 ghost use Rattle.difi_context.specs.Context.{IsInGrammar};
 ghost use Rattle.difi_context.specs.declared.context.ContextRec.{ContextRec};
 ghost use Rattle.reorder_window.specs.declared.entry.Entry.{Entry};
-ghost use Rattle.reorder_window.specs.Window.{releases};
+ghost use Rattle.reorder_window.specs.Window.{releases, answer};
 
 /// A law that a proof can cite. A packet is due at the least event at which one of its cases holds
 /// and which is not before the due event of the packet before it. What leaves stays: what events
@@ -112,7 +114,8 @@ pub fn packets_are_sound()
 {}
 
 /// A law that a proof can cite. Where the packet of each call is one of its kind, a stream tells no
-/// more samples than the payloads that it was given have bytes.
+/// more samples than the payloads that it was given have bytes; nor does it where each packet that is
+/// told as a whole counts as one more.
 #[inline]
 pub fn samples_are_at_most_bytes()
     ensures arriving { (profile : PacketProfile) (limits : Limits) (calls : List Call)
@@ -121,4 +124,22 @@ pub fn samples_are_at_most_bytes()
     ensures ending { (profile : PacketProfile) (limits : Limits) (calls : List Call)
         → AreCallsOf profile calls → is_told calls ≡ false
         → samples_told (outputs_of limits (calls ++ EndCall ∷ [])) ≤ payload_bytes calls }
+    ensures counted_arriving { (profile : PacketProfile) (limits : Limits) (calls : List Call)
+        → AreCallsOf profile calls → is_told calls ≡ false
+        → counted_told (outputs_of limits calls) ≤ payload_bytes calls }
+    ensures counted_ending { (profile : PacketProfile) (limits : Limits) (calls : List Call)
+        → AreCallsOf profile calls → is_told calls ≡ false
+        → counted_told (outputs_of limits (calls ++ EndCall ∷ [])) ≤ payload_bytes calls }
+{}
+
+/// A law that a proof can cite. A packet that its window turns away changes nothing, then or later:
+/// whatever calls come behind it, the outputs are those of the calls without it.
+#[inline]
+pub fn turned_away_changes_nothing()
+    ensures contexts { (same : ContextRec → ContextRec → Bool) (limits : Limits) (calls later : List Call) (rec : ContextRec) (why : Turned × ContextRec)
+        → outcome (answer same limits.context_window (context_arrivals calls) (context_entry rec)) ≡ Err why
+        → outputs_of limits (calls ++ ContextCall rec ∷ later) ≡ outputs_of limits (calls ++ later) }
+    ensures packets { (same : Buffer → Buffer → Bool) (limits : Limits) (calls later : List Call) (buf : Buffer) (why : Turned × Buffer)
+        → outcome (answer same limits.data_window (data_arrivals calls) (data_entry buf)) ≡ Err why
+        → outputs_of limits (calls ++ DataCall buf ∷ later) ≡ outputs_of limits (calls ++ later) }
 {}

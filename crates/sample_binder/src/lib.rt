@@ -40,7 +40,7 @@ pub use crate::label::Label;
 pub use crate::laws::{
     data_packets_are_read, due_events_are_the_first, events_are_all_releases, outputs_append,
     outputs_are_whole_packets, packets_are_sound, releases_only_grow, samples_are_at_most_bytes,
-    stretches_are_the_longest, taken_are_outputs,
+    stretches_are_the_longest, taken_are_outputs, turned_away_changes_nothing,
 };
 pub use crate::out::Out;
 pub use crate::reason::Reason;
