@@ -1,0 +1,16 @@
+pub mod Contents
+pub mod Calls
+pub mod Told
+pub mod Releases
+pub mod Judged
+pub mod State
+pub mod Steps
+pub mod Drawing
+pub mod Writing
+pub mod Progress
+pub mod Isolation
+pub mod Datagrams
+pub mod Written
+pub mod Opened
+pub mod Replayed
+pub mod Replaying

@@ -1,0 +1,37 @@
+use release_form::Refusal;
+use sample_binder::Run;
+use vrt_time::Stamp;
+
+/// What is told now, once for each port of its stream, and a refusal once.
+#[derive(Clone, Copy, Debug, PartialEq, Eq)]
+pub enum Telling {
+    /// Nothing.
+    Nothing,
+    /// A frame is refused.
+    Refused {
+        /// The number of the frame in the record, from 1.
+        frame: u64,
+        /// The port of the frame.
+        port: u16,
+        /// Why.
+        refusal: Refusal,
+        /// What shows why.
+        detail: u32,
+        /// The last released stamp, where the packet is late.
+        stamp: Option<Stamp>,
+    },
+    /// Samples of a data packet, or a whole one, of the stream of this route.
+    Run {
+        /// The index of the route.
+        index: usize,
+        /// The number of data packets lost before it.
+        lost: u8,
+        /// The samples, and what is known of them.
+        run: Run,
+    },
+    /// A version packet of the stream of this route.
+    Version {
+        /// The index of the route.
+        index: usize,
+    },
+}
