@@ -2,6 +2,9 @@ pub mod TextLaws
 pub mod OneText
 pub mod OneStatus
 pub mod Telling
+pub mod Migrating
+pub mod OneSpelling
+pub mod MigratedLaws
 pub mod ClapOptions
 pub mod ClapTurns
 pub mod ClapWalk

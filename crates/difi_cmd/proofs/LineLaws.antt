@@ -18,26 +18,36 @@ use Rattle.difi_cmd.proofs.Numbers.{no_stray, one_numbers}
 pub have_rows : (command : CommandName) → are_rows (row_of command).options ≡ true
 have_rows (names.List Check) = refl
 have_rows (names.List Show) = refl
+have_rows names.Migrate = refl
+have_rows names.Replay = refl
 
 -- its word names it
 named_by : Text → Option CommandName
 named_by word =
     if bytes_eq word (codes "check") then Some (names.List Check)
-    else (if bytes_eq word (codes "show") then Some (names.List Show) else None)
+    else (if bytes_eq word (codes "show") then Some (names.List Show)
+    else (if bytes_eq word (codes "migrate") then Some names.Migrate
+    else (if bytes_eq word (codes "replay") then Some names.Replay else None)))
 
 is_named : (command : CommandName) → named_by (row_of command).word ≡ Some command
 unfolding named_by
 is_named (names.List Check) = refl
 is_named (names.List Show) = refl
+is_named names.Migrate = refl
+is_named names.Replay = refl
 
 -- its numbers have one line
 line_from : CommandName → List (Option ℕ) → Option Line
 line_from (names.List listing) (Some max_bytes ∷ []) = Some (lines.List (record { listing = listing; max_bytes = max_bytes }))
+line_from names.Migrate (Some max_bytes ∷ []) = Some (lines.Migrate max_bytes)
+line_from names.Replay (Some max_bytes ∷ []) = Some (lines.Replay max_bytes)
 line_from command numbers = None
 
 from_line : (line : Line) → line_from (command_of line) (numbers_of line) ≡ Some line
 unfolding line_from
 from_line (lines.List options) = refl
+from_line (lines.Migrate most) = refl
+from_line (lines.Replay most) = refl
 
 -- ---- the laws
 

@@ -59,11 +59,11 @@ noted_on head frame old new text text' account is noted =
 
 -- ---- what the reader lends
 
-head_is : (started : Bool) (head other : RecordHead) → started ≡ true → (if started then Some head else None) ≡ Some other → head ≡ other
+pub head_is : (started : Bool) (head other : RecordHead) → started ≡ true → (if started then Some head else None) ≡ Some other → head ≡ other
 head_is true head other e same = cc
 head_is false head other e same = cc
 
-frame_is : (whole : Bool) (frame other : Frame) → whole ≡ true → (if whole then Some frame else None) ≡ Some other → frame ≡ other
+pub frame_is : (whole : Bool) (frame other : Frame) → whole ≡ true → (if whole then Some frame else None) ≡ Some other → frame ≡ other
 frame_is true frame other e same = cc
 frame_is false frame other e same = cc
 

@@ -3,3 +3,5 @@ pub mod Telling
 pub mod LineOfWords
 pub mod CommandOfOptions
 pub mod Outcome
+pub mod Migrated
+pub mod Migrating

@@ -139,15 +139,21 @@ max_bytes = record {
 abbrev pub row_of : CommandName → CommandRow
 row_of (names.List Check) = record { word = codes "check"; options = max_bytes ∷ [] }
 row_of (names.List Show) = record { word = codes "show"; options = max_bytes ∷ [] }
+row_of names.Migrate = record { word = codes "migrate"; options = max_bytes ∷ [] }
+row_of names.Replay = record { word = codes "replay"; options = max_bytes ∷ [] }
 
 -- ---- the line
 
 -- the command of a line, and the numbers of its options in the order of the table
 abbrev pub command_of : Line → CommandName
 command_of (lines.List options) = names.List options.listing
+command_of (lines.Migrate most) = names.Migrate
+command_of (lines.Replay most) = names.Replay
 
 abbrev pub numbers_of : Line → List (Option ℕ)
 numbers_of (lines.List options) = Some options.max_bytes ∷ []
+numbers_of (lines.Migrate most) = Some most ∷ []
+numbers_of (lines.Replay most) = Some most ∷ []
 
 -- the first word is this one
 abbrev pub IsFirst : List Text → Text → Type 0

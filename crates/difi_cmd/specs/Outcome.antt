@@ -1,5 +1,5 @@
 -- What a line does: how many bytes it judges, what they are, and what it tells of them.
-use Rattle.std.specs.Prelude.{List, ℕ, false}
+use Rattle.std.specs.Prelude.{Bool, List, ℕ, false, true}
 use Rattle.replay_form.specs.FrameFields.{Frame}
 use Rattle.replay_form.specs.RecordGrammar.{record_grammar}
 use Rattle.replay_form.specs.declared.record_head.RecordHead.{RecordHead}
@@ -11,6 +11,8 @@ use Rattle.difi_cmd.specs.declared.words.Line.{Line}
 use Rattle.difi_cmd.specs.declared.words.Line.TheVariants as lines
 use Rattle.difi_cmd.specs.declared.words.ListOptions.{ListOptions}
 use Rattle.difi_cmd.specs.Text.{AreEntries, IsWholeText}
+use Rattle.difi_gateway.specs.Replayed.{replay_of}
+use Rattle.difi_cmd.specs.Migrated.{IsMigrated}
 
 -- what check and show tell of a record
 abbrev pub told_of : Listing → Tells RecordHead Frame
@@ -20,16 +22,42 @@ told_of listing = record {
   count = 0;
   owed = 0;
   wants = false;
+  started = true;
+  ended = false;
+}
+
+-- what migrate tells of it
+abbrev pub migrated_of : Tells RecordHead Frame
+migrated_of = record {
+  part = IsMigrated;
+  out = IsMigrated;
+  count = 0;
+  owed = 0;
+  wants = false;
+  started = false;
   ended = false;
 }
 
 abbrev pub behaviour_of : ListOptions → Behaviour RecordHead Frame
 behaviour_of options = record { most = options.max_bytes; grammar = record_grammar; tells = told_of options.listing }
 
+abbrev pub migration_of : ℕ → Behaviour RecordHead Frame
+migration_of most = record { most = most; grammar = record_grammar; tells = migrated_of }
+
+-- whether the line takes memory once the header stands, for the routes that it lists
+abbrev pub wants_of : Line → Bool
+wants_of (lines.List options) = false
+wants_of (lines.Migrate most) = false
+wants_of (lines.Replay most) = true
+
 -- the outcome of what the line does
 abbrev pub DoesLine : Status → Line → Moves → Type 0
 DoesLine status (lines.List options) moves = IsOutcome status (behaviour_of options) moves
+DoesLine status (lines.Migrate most) moves = IsOutcome status (migration_of most) moves
+DoesLine status (lines.Replay most) moves = IsOutcome status (replay_of most) moves
 
 -- the status that the bytes give, where no read and no write fails
 abbrev pub IsLineVerdict : Line → List ℕ → Status → Type 0
 IsLineVerdict (lines.List options) bytes status = IsVerdict record_grammar options.max_bytes bytes status
+IsLineVerdict (lines.Migrate most) bytes status = IsVerdict record_grammar most bytes status
+IsLineVerdict (lines.Replay most) bytes status = IsVerdict record_grammar most bytes status

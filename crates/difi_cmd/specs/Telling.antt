@@ -1,5 +1,5 @@
 -- What check and show tell from now on.
-use Rattle.std.specs.Prelude.{◌≡◌, ℕ, ◌+◌, Bool, false, if◌then◌else◌, List, [], ◌∷◌, ◌++◌, length, count_by}
+use Rattle.std.specs.Prelude.{◌≡◌, ℕ, ◌+◌, Bool, false, true, if◌then◌else◌, List, [], ◌∷◌, ◌++◌, length, count_by}
 use Rattle.replay_form.specs.FrameFields.{Frame}
 use Rattle.replay_form.specs.declared.record_head.RecordHead.{RecordHead}
 use Rattle.record_run.specs.Tells.{Tells}
@@ -29,6 +29,7 @@ told_from listing number accepted ended = record {
   count = number;
   owed = 0;
   wants = false;
+  started = true;
   ended = ended;
 }
 

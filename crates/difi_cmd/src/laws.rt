@@ -1,4 +1,9 @@
-ghost use Rattle.std.specs.Prelude.{◌≡◌, ℕ, List};
+ghost use Rattle.std.specs.Prelude.{◌≡◌, ◌↔◌, ℕ, List};
+ghost use Rattle.vrt_words.specs.Words.{AreBytes};
+ghost use Rattle.replay_form.specs.FrameFields.{Frame};
+ghost use Rattle.replay_form.specs.Record.{IsRecord};
+ghost use Rattle.replay_form.specs.declared.record_head.RecordHead.{RecordHead};
+ghost use Rattle.difi_cmd.specs.Migrated.{IsMigrated, ChangesForm, in_second_form};
 ghost use Rattle.difi_texts.specs.declared.lines.Listing.{Listing};
 ghost use Rattle.replay_form.specs.RecordGrammar.{record_grammar};
 ghost use Rattle.record_run.specs.Outcome.{IsVerdict};
@@ -21,4 +26,21 @@ pub fn bytes_have_one_text()
 pub fn bytes_have_one_status()
     ensures { (most : ℕ) (bytes : List ℕ) (status other : Status)
         → IsVerdict record_grammar most bytes status → IsVerdict record_grammar most bytes other → status ≡ other }
+{}
+
+/// Laws that a proof can cite: a record has one migrated text, which is its header in form 2 and the
+/// same bytes behind it; it is a record of form 2 with the same values and frames. Migrated again it
+/// stays as it is.
+#[inline]
+pub fn migrated_once()
+    ensures one_text { (head : RecordHead) (frames : List Frame) (text other : List ℕ)
+        → IsMigrated head frames text → IsMigrated head frames other → text ≡ other }
+    ensures frames_stand { (head : RecordHead) (frames : List Frame) (bytes text : List ℕ)
+        → AreBytes bytes → IsRecord head frames bytes → IsMigrated head frames text ↔ ChangesForm head bytes text }
+    ensures second_form { (head : RecordHead) (frames : List Frame) (bytes text : List ℕ)
+        → IsRecord head frames bytes → IsMigrated head frames text → IsRecord (in_second_form head) frames text }
+    ensures again { (head : RecordHead) (frames : List Frame) (text other : List ℕ)
+        → IsMigrated head frames text → IsMigrated (in_second_form head) frames other → other ≡ text }
+    ensures stays { (head : RecordHead) (frames : List Frame) (bytes : List ℕ)
+        → AreBytes bytes → IsRecord head frames bytes → head.form ≡ 2 → IsMigrated head frames bytes }
 {}

@@ -12,6 +12,10 @@ use std::alloc::Global;
 pub(crate) enum CommandName {
     /// `check` or `show`, by what is told of the frames.
     List(Listing),
+    /// `migrate`.
+    Migrate,
+    /// `replay`.
+    Replay,
 }
 
 /// What a line of words asks for: a command, with what its options say.
@@ -19,6 +23,10 @@ pub(crate) enum CommandName {
 pub(crate) enum Line {
     /// The frames of a record are listed.
     List(ListOptions),
+    /// A record is written in form 2; so many of its bytes are judged at most.
+    Migrate { max_bytes: u64 },
+    /// A record is replayed; so many of its bytes are judged at most.
+    Replay { max_bytes: u64 },
 }
 
 /// What is listed.
@@ -60,6 +68,14 @@ fn command_row(word: &str) -> Option<CommandRow>
             command: CommandName::List(Listing::Show),
             options: &[MAX_BYTES],
         },
+        "migrate" => CommandRow {
+            command: CommandName::Migrate,
+            options: &[MAX_BYTES],
+        },
+        "replay" => CommandRow {
+            command: CommandName::Replay,
+            options: &[MAX_BYTES],
+        },
         _ => return None,
     };
     Some(row)
@@ -78,6 +94,12 @@ fn line_with(command: CommandName, numbers: &[Option<u64>]) -> Option<Line>
             listing,
             max_bytes: *max_bytes,
         })),
+        (CommandName::Migrate, [Some(max_bytes)]) => Some(Line::Migrate {
+            max_bytes: *max_bytes,
+        }),
+        (CommandName::Replay, [Some(max_bytes)]) => Some(Line::Replay {
+            max_bytes: *max_bytes,
+        }),
         _ => None,
     }
 }

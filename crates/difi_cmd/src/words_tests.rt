@@ -28,7 +28,6 @@ fn the_first_word_names_the_listing(rt: HostRuntime) -> Result<(), Fail> {
     let alloc = rt.alloc();
     assert_eq!(rt; read(alloc, &[])?, USAGE);
     assert_eq!(rt; read(alloc, &["paint"])?, USAGE);
-    assert_eq!(rt; read(alloc, &["replay"])?, USAGE);
     assert_eq!(rt; read(alloc, &["--max-bytes=5", "check"])?, USAGE);
     Ok(())
 }
@@ -42,6 +41,18 @@ fn without_the_option_its_default_holds(rt: HostRuntime) -> Result<(), Fail> {
     };
     assert_eq!(rt; read(alloc, &["show"])?, Ok(Line::List(show)));
     assert_eq!(rt; read(alloc, &["check"])?, check(1_099_511_627_776));
+    Ok(())
+}
+
+#[test]
+fn replay_has_no_other_option_so_far(rt: HostRuntime) -> Result<(), Fail> {
+    let alloc = rt.alloc();
+    let max_bytes = 1_099_511_627_776;
+    assert_eq!(rt; read(alloc, &["replay"])?, Ok(Line::Replay { max_bytes }));
+    let line = ["replay", "--max-bytes", "331"];
+    assert_eq!(rt; read(alloc, &line)?, Ok(Line::Replay { max_bytes: 331 }));
+    assert_eq!(rt; read(alloc, &["replay", "--ring", "1"])?, USAGE);
+    assert_eq!(rt; read(alloc, &["replay", "--stages=3"])?, USAGE);
     Ok(())
 }
 

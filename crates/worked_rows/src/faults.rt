@@ -1,6 +1,6 @@
 //! Records that are none, and the offset at which each is told to be wrong.
 
-use crate::records::{header, run, run_line, second_header};
+use crate::records::{front, header, run, run_line, second_header};
 use difi_cmd::Status;
 use std::alloc::Global;
 use std::test::Fail;
@@ -118,15 +118,6 @@ fn picoseconds_rise_within_a_second_alone(rt: HostRuntime) -> Result<(), Fail> {
     let outcome = run(&rt, rt.alloc(), next.as_slice())?;
     assert!(rt; outcome.status == Status::Done);
     Ok(())
-}
-
-// The first bytes, or all where there are no more.
-fn front(bytes: &[u8], length: usize) -> &[u8] {
-    if length <= bytes.len() {
-        &bytes[..length]
-    } else {
-        bytes
-    }
 }
 
 #[test]

@@ -16,6 +16,14 @@ mod places;
 #[cfg(test)]
 mod records;
 #[cfg(test)]
+mod releases;
+#[cfg(test)]
+mod replay_faults;
+#[cfg(test)]
+mod replayed;
+#[cfg(test)]
+mod replayed_runs;
+#[cfg(test)]
 mod runs;
 #[cfg(test)]
 mod shown;

@@ -75,3 +75,12 @@ pub fn run<R: Threads + Sync>(rt: &R, alloc: Global, record: &[u8]) -> Result<Ou
 pub fn show<R: Threads + Sync>(rt: &R, alloc: Global, record: &[u8]) -> Result<Outcome, Fail> {
     run_line(rt, alloc, &["show"], record, 4096, &[], &[])
 }
+
+/// The first bytes, or all where there are no more.
+pub fn front(bytes: &[u8], length: usize) -> &[u8] {
+    if length <= bytes.len() {
+        &bytes[..length]
+    } else {
+        bytes
+    }
+}

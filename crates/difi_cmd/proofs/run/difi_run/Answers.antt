@@ -1,20 +1,24 @@
-use Rattle.std.proofs.Common.{◌≡◌, refl}
-use Rattle.difi_cmd.specs.declared.words.Line.{Line}
+use Rattle.std.proofs.Common.{◌≡◌, ◌∙◌}
 use Rattle.difi_cmd.specs.declared.words.Line.TheVariants as lines
-use Rattle.difi_cmd.specs.declared.words.ListOptions.{ListOptions}
 use Rattle.difi_cmd.proofs.LineLaws.{one_line}
 use Rattle.difi_cmd.proofs.run.difi_run.Goals as goal
 
-listed : (line : Line) → (options : ListOptions) × (line ≡ lines.List options)
-listed (lines.List options) = (options, refl)
+pub returns-in-List-clause-complete : goal.returns-in-List-clause-complete
+returns-in-List-clause-complete g c = λ line asks no_read no_write.
+    let same : line ≡ lines.List c.in-List.options = one_line c.args.words.now line c.in-Ok.line asks c.in-Ok.ensures.found ∙ c.in-List.is in
+    rw same (c.list.ensures.complete no_read no_write)
 
-pub returns-clause-outcome : goal.returns-clause-outcome
-returns-clause-outcome g c = λ usage memory.
-    let l = listed c.in-Ok.line in
-    (c.in-Ok.line, (c.in-Ok.ensures.found, rw l.1 (rw l.1 at c.list.ensures.outcome)))
+pub returns-in-Migrate-clause-complete : goal.returns-in-Migrate-clause-complete
+returns-in-Migrate-clause-complete g c = λ line asks no_read no_write.
+    let same : line ≡ lines.Migrate c.in-Migrate.max_bytes = one_line c.args.words.now line c.in-Ok.line asks c.in-Ok.ensures.found ∙ c.in-Migrate.is in
+    rw same (c.migrate.ensures.complete no_read no_write)
 
-pub returns-clause-complete : goal.returns-clause-complete
-returns-clause-complete g c = λ line asks no_read no_write.
-    let l = listed c.in-Ok.line in
-    let same = one_line c.args.words.now line c.in-Ok.line asks c.in-Ok.ensures.found in
-    rw same (rw l.1 (rw l.1 at (c.list.ensures.complete no_read no_write)))
+pub returns-in-Replay-clause-want : goal.returns-in-Replay-clause-want
+returns-in-Replay-clause-want g c = λ short line asks.
+    let same : line ≡ lines.Replay c.in-Replay.max_bytes = one_line c.args.words.now line c.in-Ok.line asks c.in-Ok.ensures.found ∙ c.in-Replay.is in
+    rw same (c.replay_run.ensures.outcome)
+
+pub returns-in-Replay-clause-complete : goal.returns-in-Replay-clause-complete
+returns-in-Replay-clause-complete g c = λ line asks no_read no_write.
+    let same : line ≡ lines.Replay c.in-Replay.max_bytes = one_line c.args.words.now line c.in-Ok.line asks c.in-Ok.ensures.found ∙ c.in-Replay.is in
+    rw same (c.replay_run.ensures.complete no_read no_write)
