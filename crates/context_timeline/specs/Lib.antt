@@ -1,4 +1,5 @@
 pub mod Line
 pub mod Marks
+pub mod Looks
 pub mod Cut
 pub mod AllContexts

@@ -3,6 +3,7 @@
 #![tactic(auto)]
 
 mod laws;
+mod look;
 mod mark;
 mod search;
 #[cfg(test)]
@@ -11,6 +12,7 @@ mod timed_context;
 mod timeline;
 
 pub use crate::laws::marks_speak_of_all_contexts;
+pub use crate::look::Look;
 pub use crate::mark::Mark;
 pub use crate::timed_context::TimedContext;
 pub use crate::timeline::Timeline;

@@ -1,20 +1,53 @@
-ghost use Rattle.std.specs.Prelude.{◌≡◌, ◌<◌, ◌≤◌, ◌↔◌, IsTrue, length, slice_index};
+ghost use Rattle.std.specs.Prelude.{◌≡◌, ℕ, ◌+◌, ◌<◌, ◌≤◌, ◌↔◌, IsTrue, true, false, length, slice_index};
 ghost use Rattle.context_timeline.specs.Line.{IsRising, moments, line_of_kept};
 ghost use Rattle.context_timeline.specs.Marks.{healed, mark_before, mark_of_pair};
+ghost use Rattle.context_timeline.specs.Looks.{mark_of};
 ghost use Rattle.context_timeline.specs.Cut.{IsCut, mark_at_cut, stamp_at};
 
-use crate::mark::Mark;
+use crate::look::Look;
 use crate::timed_context::TimedContext;
 use circular_buffer::HeapCircularBuffer;
 use vrt_time::{Moment, Stamp};
 
-// The number of contexts in front whose stamps are not above the moment.
+// The number of contexts in front whose stamps are not above the moment. Mostly it is that of all, or one less.
+#[inline]
 pub(crate) fn count_not_after(kept: &HeapCircularBuffer<TimedContext>, moment: Moment) -> usize
     requires { IsRising (moments kept.now.items) }
     ensures { IsCut (moments kept.now.items) moment result }
 {
+    let number = kept.len();
+    if is_reached(kept, number, moment) {
+        return number;
+    }
+    if is_reached(kept, number - 1, moment) {
+        return number - 1;
+    }
+    search_below(kept, number - 2, moment)
+}
+
+// Whether the stamps of so many contexts in front are not above the moment. Where not, that of the last of
+// these is above it.
+#[inline]
+fn is_reached(kept: &HeapCircularBuffer<TimedContext>, count: usize, moment: Moment) -> bool
+    requires rising { IsRising (moments kept.now.items) }
+    requires within { count ≤ length kept.now.items }
+    ensures before { result ≡ true → (k : ℕ) → k < count → slice_index (moments kept.now.items) k ≤ moment }
+    ensures some { result ≡ false → 0 < count }
+    ensures behind { result ≡ false → (k : ℕ) → count ≤ k + 1 → k < length (moments kept.now.items) → moment < slice_index (moments kept.now.items) k }
+{
+    count == 0 || is_not_after(kept, count - 1, moment)
+}
+
+// The same number, where the stamps from this index on are above the moment.
+#[inline(never)]
+fn search_below(kept: &HeapCircularBuffer<TimedContext>, above: usize, moment: Moment) -> usize
+    requires rising { IsRising (moments kept.now.items) }
+    requires within { above ≤ length kept.now.items }
+    requires behind { (k : ℕ) → above ≤ k → k < length (moments kept.now.items) → moment < slice_index (moments kept.now.items) k }
+    ensures { IsCut (moments kept.now.items) moment result }
+{
     let mut low = 0;
-    let mut high = kept.len();
+    let mut high = above;
     while low < high {
         let middle = low + (high - low) / 2;
         if is_not_after(kept, middle, moment) {
@@ -27,6 +60,7 @@ pub(crate) fn count_not_after(kept: &HeapCircularBuffer<TimedContext>, moment: M
 }
 
 // Whether the stamp of the context at this index is not above the moment.
+#[inline]
 fn is_not_after(kept: &HeapCircularBuffer<TimedContext>, index: usize, moment: Moment) -> bool
     requires { index < length kept.now.items }
     ensures { IsTrue result ↔ (slice_index (moments kept.now.items) index ≤ moment) }
@@ -37,19 +71,20 @@ fn is_not_after(kept: &HeapCircularBuffer<TimedContext>, index: usize, moment: M
     }
 }
 
-// The mark of a moment that so many of the kept contexts are not after, and the stamp of the next.
-pub(crate) fn mark_and_next(
+// What is said of a moment that so many of the kept contexts are not after, and the stamp of the next.
+#[inline]
+pub(crate) fn look_and_next(
     kept: &HeapCircularBuffer<TimedContext>,
     added: u64,
     count: usize,
-) -> (Mark, Option<Stamp>)
+) -> (Look<'_>, Option<Stamp>)
     requires added { length kept.now.items ≤ added }
     requires within { count ≤ length kept.now.items }
-    ensures mark { result.0 ≡ mark_at_cut (line_of_kept kept.now.capacity added kept.now.items) count }
+    ensures mark { mark_of result.0 ≡ mark_at_cut (line_of_kept kept.now.capacity added kept.now.items) count }
     ensures next { result.1 ≡ stamp_at kept.now.items count }
 {
     let Some(after) = kept.get(count) else {
-        return (Mark::Open, None);
+        return (Look::Open, None);
     };
     if count == 0 {
         return (
@@ -64,28 +99,29 @@ pub(crate) fn mark_and_next(
     (between(place, before, after), Some(after.stamp))
 }
 
-// The mark of a moment before all kept contexts.
-fn before_kept(limit: u64, added: u64) -> Mark
-    ensures { result ≡ mark_before limit added }
+// What is said of a moment before all kept contexts.
+fn before_kept<'a>(limit: u64, added: u64) -> Look<'a>
+    ensures { mark_of result ≡ mark_before limit added }
 {
     if limit < added {
-        Mark::TimelineFull
+        Look::TimelineFull
     } else {
-        Mark::BeforeFirst
+        Look::BeforeFirst
     }
 }
 
-// The mark of a moment between two neighbouring contexts, of which the first has this number.
-fn between(place: u64, before: &TimedContext, after: &TimedContext) -> Mark
-    ensures { result ≡ mark_of_pair place before.now after.now }
+// What is said of a moment between two neighbouring contexts, of which the first has this number.
+#[inline]
+fn between<'a>(place: u64, before: &'a TimedContext, after: &'a TimedContext) -> Look<'a>
+    ensures { mark_of result ≡ mark_of_pair place before.now after.now }
 {
     if after.lost == 0 || is_healed(before, after) {
-        Mark::Bound {
+        Look::Bound {
             place,
-            fields: before.fields,
+            fields: &before.fields,
         }
     } else {
-        Mark::Lost(after.lost)
+        Look::Lost(after.lost)
     }
 }
 

@@ -4,10 +4,12 @@ ghost use Rattle.difi_context.specs.Context.{IsInGrammar};
 ghost use Rattle.context_timeline.specs.declared.timed_context.TimedContext.{TimedContext};
 ghost use Rattle.context_timeline.specs.Line.{line_of, with_context, timed_context, stamp_in, horizon_of};
 ghost use Rattle.context_timeline.specs.Marks.{mark_in, next_stamp};
+ghost use Rattle.context_timeline.specs.Looks.{mark_of};
 ghost use Rattle.context_timeline.specs.AllContexts.{IsMark};
 
+use crate::look::Look;
 use crate::mark::Mark;
-use crate::search::{count_not_after, mark_and_next};
+use crate::search::{count_not_after, look_and_next};
 use crate::timed_context::TimedContext;
 use circular_buffer::HeapCircularBuffer;
 use difi_context::ContextRec;
@@ -94,8 +96,22 @@ impl Timeline {
         ensures history { (contexts : List TimedContext) → self.now ≡ line_of self.now.limit contexts
             → IsMark self.now.limit contexts moment result.0 }
     {
+        let (look, until) = self.look_until(moment);
+        (look.mark(), until)
+    }
+
+    /// The same as `mark_until`, but the fields of a context in force are lent.
+    #[inline]
+    pub fn look_until(&self, moment: Moment) -> (Look<'_>, Option<Stamp>)
+        ensures mark { mark_of result.0 ≡ mark_in self.now moment }
+        ensures until { result.1 ≡ next_stamp self.now.kept moment }
+        ensures same { (later : ℕ) → moment ≤ later → IfSome result.1 (λ stamp. later < moment_of stamp)
+            → mark_in self.now later ≡ mark_of result.0 }
+        ensures history { (contexts : List TimedContext) → self.now ≡ line_of self.now.limit contexts
+            → IsMark self.now.limit contexts moment (mark_of result.0) }
+    {
         let count = count_not_after(&self.kept, moment);
-        mark_and_next(&self.kept, self.added, count)
+        look_and_next(&self.kept, self.added, count)
     }
 
     /// The stamp of the last context. `None` exactly where none was added.

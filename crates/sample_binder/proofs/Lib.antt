@@ -5,6 +5,7 @@ pub mod DueLaws
 pub mod OutputLaws
 pub mod PrefixLaws
 pub mod SampleLemmas
+pub mod ClockLemmas
 pub mod CutLemmas
 pub mod RunLemmas
 pub mod StateLemmas

@@ -1,6 +1,7 @@
 ghost use Rattle.std.specs.Prelude.{◌≡◌, ◌<◌, ◌≤◌, ◌⊎◌, ℕ, true, false, IfSome};
 ghost use Rattle.vrt_time.specs.Time.{moment_of, capture_at};
 ghost use Rattle.context_timeline.specs.Marks.{mark_in};
+ghost use Rattle.context_timeline.specs.Looks.{mark_of};
 ghost use Rattle.sample_binder.specs.Samples.{rate_in};
 ghost use Rattle.sample_binder.specs.Sound.{HasSampling};
 ghost use Rattle.sample_binder.specs.Runs.{label_at, same_label};
@@ -11,7 +12,7 @@ use crate::label::{Label, is_same, label_of};
 use crate::reason::Reason;
 use crate::sampled::Sampled;
 use crate::sampling::rate_of;
-use context_timeline::{Mark, Timeline};
+use context_timeline::{Look, Timeline};
 use vrt_time::Stamp;
 
 // How many of the samples were captured before the stamp, if there is one.
@@ -32,19 +33,19 @@ fn passed_by(samples: &Sampled, until: Option<Stamp>) -> u32
     }
 }
 
-// The mark of a sample, and the first sample behind it that may have another one, or the number of samples.
-fn mark_end(timeline: &Timeline, samples: &Sampled, sample: u32) -> (Mark, u32)
+// What is said of a sample, and the first sample behind it of which another may be said, or the number of samples.
+fn look_end<'a>(timeline: &'a Timeline, samples: &Sampled, sample: u32) -> (Look<'a>, u32)
     requires sampling { HasSampling samples.now.fields }
     requires there { sample < samples.now.number }
-    ensures mark { result.0 ≡ mark_in timeline.now (capture_at samples.now.stamp sample (rate_in samples.now.fields)) }
+    ensures mark { mark_of result.0 ≡ mark_in timeline.now (capture_at samples.now.stamp sample (rate_in samples.now.fields)) }
     ensures later { sample < result.1 }
     ensures within { result.1 ≤ samples.now.number }
     ensures same { (m : ℕ) → sample ≤ m → m < result.1
-        → mark_in timeline.now (capture_at samples.now.stamp m (rate_in samples.now.fields)) ≡ result.0 }
+        → mark_in timeline.now (capture_at samples.now.stamp m (rate_in samples.now.fields)) ≡ mark_of result.0 }
 {
     let at = captured(samples.stamp, sample, rate_of(&samples.fields));
-    let (mark, until) = timeline.mark_until(at);
-    (mark, passed_by(samples, until))
+    let (look, until) = timeline.look_until(at);
+    (look, passed_by(samples, until))
 }
 
 // The label of a sample, and the first sample behind it that has another one, or the number of samples.
@@ -58,11 +59,11 @@ pub(crate) fn stretch(
     requires there { first < samples.now.number }
     ensures { IsStretch (label_at timeline.now why samples.now.stamp samples.now.fields) samples.now.number first result.0 result.1 }
 {
-    let (mark, mut end) = mark_end(timeline, samples, first);
-    let label = label_of(&samples.fields, why, mark);
+    let (look, mut end) = look_end(timeline, samples, first);
+    let label = label_of(&samples.fields, why, look);
     while end < samples.number {
-        let (mark, next) = mark_end(timeline, samples, end);
-        let other = label_of(&samples.fields, why, mark);
+        let (look, next) = look_end(timeline, samples, end);
+        let other = label_of(&samples.fields, why, look);
         if !is_same(&label, &other) {
             return (label, end);
         }

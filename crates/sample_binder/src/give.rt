@@ -1,6 +1,6 @@
-ghost use Rattle.std.specs.Prelude.{◌≡◌, ◌+◌, ◌∷◌, None, length, IfSome, IfNone};
+ghost use Rattle.std.specs.Prelude.{◌≡◌, ◌+◌, true, false, [], ◌∷◌, None, length, IfSome, IfNone};
 ghost use Rattle.std.specs.VecDeque.{deque_capacity};
-ghost use Rattle.sample_binder.specs.Left.{runs_left_of, IsLeaving};
+ghost use Rattle.sample_binder.specs.Left.{runs_left, runs_left_of, IsLeaving};
 ghost use Rattle.sample_binder.specs.Outputs.{open_reason, packets_in};
 ghost use Rattle.sample_binder.specs.Queue.{AreSound, AreShapes, first_decided};
 ghost use Rattle.sample_binder.specs.Steps.{GivesPacket};
@@ -9,8 +9,9 @@ use crate::leaving::Leaving;
 use crate::out::Out;
 use crate::pending::Pending;
 use crate::queue::{decide_first, why_open};
+use crate::reason::Reason;
 use crate::run::Run;
-use crate::runs::next_run;
+use crate::runs::next_stretch;
 use context_timeline::Timeline;
 use std::collections::VecDeque;
 
@@ -27,13 +28,40 @@ pub(crate) fn give_run(
     ensures same { IfNone result (leaving.new ≡ None) }
     ensures rest { IfSome leaving.new (IsLeaving timeline.now (open_reason ended)) }
 {
-    let now = match leaving {
-        Some(now) => *now,
-        None => return None,
+    let Some(now) = leaving else {
+        return None;
     };
-    let (run, rest) = next_run(timeline, why_open(ended), &now);
-    *leaving = rest;
+    let (run, is_last) = take_run(timeline, why_open(ended), now);
+    if is_last {
+        *leaving = None;
+    }
     Some(run)
+}
+
+// The next run of a packet that leaves, which is then left without it, and whether it is the last.
+#[inline]
+fn take_run(timeline: &Timeline, why: Reason, leaving: &mut Leaving) -> (Run, bool)
+    requires { IsLeaving timeline.now why leaving.old }
+    ensures last { result.1 ≡ true → runs_left timeline.now why leaving.old ≡ result.0 ∷ [] }
+    ensures more { result.1 ≡ false → runs_left timeline.now why leaving.old
+        ≡ result.0 ∷ runs_left timeline.now why leaving.new }
+    ensures rest { result.1 ≡ false → IsLeaving timeline.now why leaving.new }
+{
+    match leaving {
+        Leaving::Raw { reason, stamp, pad } => {
+            let run = Run::Raw {
+                reason: *reason,
+                stamp: *stamp,
+                pad: *pad,
+            };
+            (run, true)
+        }
+        Leaving::Cut { samples, first } => {
+            let (run, end) = next_stretch(timeline, why, samples, *first);
+            *first = end;
+            (run, end >= samples.number)
+        }
+    }
 }
 
 // The first of the packets that wait, where it need not wait: it leaves.

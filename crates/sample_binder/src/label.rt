@@ -1,9 +1,10 @@
 ghost use Rattle.std.specs.Prelude.{◌≡◌};
+ghost use Rattle.context_timeline.specs.Looks.{mark_of};
 ghost use Rattle.sample_binder.specs.Runs.{same_sampling, label_by, same_reason, same_label};
 
 use crate::reason::Reason;
 use crate::sampling::rate_of;
-use context_timeline::Mark;
+use context_timeline::Look;
 use vrt_fields::FORMAT_WORD;
 
 /// What is known of one sample.
@@ -20,19 +21,22 @@ pub enum Label {
     Uncertain(Reason),
 }
 
-// What is known of a sample of this mark, in a packet whose first sample has a context with the fields `first`. Where the
-// mark is open, it is uncertain for the reason `why`.
-pub(crate) fn label_of(first: &[u32; 19], why: Reason, mark: Mark) -> Label
-    ensures { result ≡ label_by first.now why mark }
+// What is known of a sample of whose moment this is said, in a packet whose first sample has a context with the fields
+// `first`. Where the moment is open, it is uncertain for the reason `why`.
+pub(crate) fn label_of(first: &[u32; 19], why: Reason, look: Look<'_>) -> Label
+    ensures { result ≡ label_by first.now why (mark_of look.entry) }
 {
-    match mark {
-        Mark::Open => Label::Uncertain(why),
-        Mark::BeforeFirst => Label::Uncertain(Reason::BeforeFirst),
-        Mark::TimelineFull => Label::Uncertain(Reason::TimelineFull),
-        Mark::Lost(lost) => Label::Uncertain(Reason::ContextLost(lost)),
-        Mark::Bound { place, fields } => {
-            if has_same_sampling(first, &fields) {
-                Label::Bound { place, fields }
+    match look {
+        Look::Open => Label::Uncertain(why),
+        Look::BeforeFirst => Label::Uncertain(Reason::BeforeFirst),
+        Look::TimelineFull => Label::Uncertain(Reason::TimelineFull),
+        Look::Lost(lost) => Label::Uncertain(Reason::ContextLost(lost)),
+        Look::Bound { place, fields } => {
+            if has_same_sampling(first, fields) {
+                Label::Bound {
+                    place,
+                    fields: *fields,
+                }
             } else {
                 Label::Uncertain(Reason::FormatChanged)
             }

@@ -7,58 +7,34 @@ ghost use Rattle.sample_binder.specs.Left.{runs_left, runs_left_of, rest_from, I
 use crate::clock::captured;
 use crate::cut::stretch;
 use crate::label::Label;
-use crate::leaving::Leaving;
 use crate::reason::Reason;
 use crate::run::Run;
 use crate::sampled::Sampled;
 use crate::sampling::{rate_of, size_of};
 use context_timeline::Timeline;
 
-// The next run of a packet that leaves, and what is left behind it.
-pub(crate) fn next_run(
-    timeline: &Timeline,
-    why: Reason,
-    leaving: &Leaving,
-) -> (Run, Option<Leaving>)
-    requires { IsLeaving timeline.now why leaving.now }
-    ensures runs { runs_left timeline.now why leaving.now ≡ result.0 ∷ runs_left_of timeline.now why result.1 }
-    ensures rest { IfSome result.1 (IsLeaving timeline.now why) }
-{
-    match leaving {
-        Leaving::Raw { reason, stamp, pad } => (
-            Run::Raw {
-                reason: *reason,
-                stamp: *stamp,
-                pad: *pad,
-            },
-            None,
-        ),
-        Leaving::Cut { samples, first } => next_stretch(timeline, why, samples, *first),
-    }
-}
-
-// The stretch from this sample on as a run, and what is left behind it.
-fn next_stretch(
+// The stretch from this sample on as a run, and the first sample behind it, or the number of samples.
+#[inline]
+pub(crate) fn next_stretch(
     timeline: &Timeline,
     why: Reason,
     samples: &Sampled,
     first: u32,
-) -> (Run, Option<Leaving>)
+) -> (Run, u32)
     requires { IsCut timeline.now why samples.now first }
-    ensures runs { runs_left timeline.now why (Leaving.Cut samples.now first) ≡ result.0 ∷ runs_left_of timeline.now why result.1 }
-    ensures rest { IfSome result.1 (IsLeaving timeline.now why) }
+    ensures runs { runs_left timeline.now why (Leaving.Cut samples.now first)
+        ≡ result.0 ∷ runs_left_of timeline.now why (rest_from samples.now result.1) }
+    ensures rest { IfSome (rest_from samples.now result.1) (IsLeaving timeline.now why) }
 {
     let (label, end) = stretch(timeline, samples, why, first);
-    (
-        run_of(samples, first, end - first, label),
-        rest_of(samples, end),
-    )
+    (run_of(samples, first, end - first, &label), end)
 }
 
 // So many samples of this label as a run.
-fn run_of(samples: &Sampled, first: u32, number: u32, label: Label) -> Run
+#[inline]
+fn run_of(samples: &Sampled, first: u32, number: u32, label: &Label) -> Run
     requires { HasSampling samples.now.fields }
-    ensures { result ≡ run_by label samples.now.stamp samples.now.fields (first, number) }
+    ensures { result ≡ run_by label.now samples.now.stamp samples.now.fields (first, number) }
 {
     let at = captured(samples.stamp, first, rate_of(&samples.fields));
     let bits = size_of(&samples.fields);
@@ -68,30 +44,16 @@ fn run_of(samples: &Sampled, first: u32, number: u32, label: Label) -> Run
             first,
             number,
             at,
-            fields,
+            fields: *fields,
             bits,
         },
         Label::Uncertain(reason) => Run::Uncertain {
-            reason,
+            reason: *reason,
             stamp: samples.stamp,
             first,
             number,
             at,
             bits,
         },
-    }
-}
-
-// The samples from one on, if there are any.
-fn rest_of(samples: &Sampled, first: u32) -> Option<Leaving>
-    ensures { result ≡ rest_from samples.now first }
-{
-    if first < samples.number {
-        Some(Leaving::Cut {
-            samples: *samples,
-            first,
-        })
-    } else {
-        None
     }
 }

@@ -5,7 +5,7 @@ use Rattle.sample_binder.proofs.cut.stretch.Goals as goal
 
 pub loop-end-preserved : goal.loop-end-preserved
 loop-end-preserved c =
-    let next = c.mark_end-mark-in-loop-end in
+    let next = c.look_end-next in
     let samples = c.args.samples.now in
     record {
       some = omega (arith, c.loop-end.invariant.some, next.ensures.later);

@@ -1,6 +1,6 @@
 use Rattle.std.proofs.Common.{◌-◌, ◌<◌, ◌≤◌, length, slice_index, ℕ}
 use Rattle.context_timeline.specs.Line.{moments}
-use Rattle.context_timeline.proofs.search.count_not_after.Given as goal
+use Rattle.context_timeline.proofs.search.search_below.Given as goal
 
 abbrev pub invariant-loop-low : goal.invariant-loop-low
 invariant-loop-low l =
