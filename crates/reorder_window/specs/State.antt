@@ -10,8 +10,9 @@ pub record Holding (T : Type 0) : Type 0 where
   pub held : List (Entry T)
   pub last : Option Last
 
--- at most `size` are held, and the memory has room for one more
-pub record HoldingFits (len size capacity : ℕ) : Type 0 where
+-- the count of the held is their number, at most `size` are held, and the memory has room for one more
+pub record HoldingFits (number len size capacity : ℕ) : Type 0 where
+  pub counted : len ≡ number
   pub within : len ≤ size
   pub taken : size < capacity
 

@@ -1,9 +1,11 @@
-ghost use Rattle.std.specs.Prelude.{◌≡◌, ◌==◌, ◌≤◌, nat_lt, length, slice_get, option_copied};
+ghost use Rattle.std.specs.Prelude.{◌≡◌, ◌==◌, ◌≤◌, nat_lt, slice_get, option_copied};
+ghost use Rattle.std.specs.VecDeque.{deque_len};
 ghost use Rattle.vrt_time.specs.Time.{moment_of};
 ghost use Rattle.reorder_window.specs.Steps.{late_by, number_above, of_stamp, IsJudged};
 
 use crate::entry::{Entry, Last};
 use crate::held_item::HeldItem;
+use std::collections::VecDeque;
 use vrt_time::Stamp;
 
 /// How an arrival stands to the packets that are held and to the one released last.
@@ -20,12 +22,12 @@ pub(crate) enum Judged {
 
 // Judges an arrival by the held packets, whose stamps fall, and by the one released last.
 pub(crate) fn judge<T: HeldItem>(
-    held: &[Entry<T>],
+    held: &VecDeque<Entry<T>>,
     last: &Option<Last>,
     stamp: Stamp,
     item: &T,
 ) -> Judged
-    ensures { IsJudged T.is_same held.now last.now stamp item.now result }
+    ensures { IsJudged T.is_same held.now.items last.now stamp item.now result }
 {
     if let Some(boundary) = boundary_over(last, stamp) {
         return Judged::NotAbove(boundary);
@@ -53,21 +55,23 @@ fn boundary_over(last: &Option<Last>, stamp: Stamp) -> Option<Stamp>
 }
 
 // The number of packets with greater stamps, which are the first.
-fn place_of<T>(held: &[Entry<T>], stamp: Stamp) -> usize
-    ensures number { result ≡ number_above stamp held.now }
-    ensures within { result ≤ length held.now }
+fn place_of<T>(held: &VecDeque<Entry<T>>, stamp: Stamp) -> usize
+    ensures number { result ≡ number_above stamp held.now.items }
+    ensures within { result ≤ deque_len held.now }
 {
-    for (place, entry) in held.iter().enumerate() {
+    let mut place = 0;
+    while let Some(entry) = held.get(place) {
         if !is_before(stamp, entry.stamp) {
             return place;
         }
+        place += 1;
     }
-    held.len()
+    place
 }
 
 // The packet at a place, where it is of this stamp.
-fn twin_at<T>(held: &[Entry<T>], place: usize, stamp: Stamp) -> Option<&Entry<T>>
-    ensures { option_copied result ≡ of_stamp stamp (slice_get held.now place) }
+fn twin_at<T>(held: &VecDeque<Entry<T>>, place: usize, stamp: Stamp) -> Option<&Entry<T>>
+    ensures { option_copied result ≡ of_stamp stamp (slice_get held.now.items place) }
 {
     match held.get(place) {
         Some(twin) if is_same_moment(twin.stamp, stamp) => Some(twin),

@@ -10,6 +10,7 @@ use crate::held_item::HeldItem;
 use crate::judge::{Judged, judge};
 use crate::release::{accept, take_least};
 use std::alloc::Global;
+use std::collections::VecDeque;
 use std::marker::Model;
 use vrt_time::Stamp;
 use vrt_words::NoMemory;
@@ -19,19 +20,20 @@ use vrt_words::NoMemory;
 #[derive(Drop)]
 pub struct Window<T> {
     size: u32,
-    held: Vec<Entry<T>>,
+    held: VecDeque<Entry<T>>,
     last: Option<Last>,
 }
 
 impl<T> Model for Window<T> {
-    ghost use Rattle.std.specs.Prelude.{◌≤◌, vec_len, vec_capacity};
+    ghost use Rattle.std.specs.Prelude.{length};
+    ghost use Rattle.std.specs.VecDeque.{deque_len, deque_capacity};
     ghost use Rattle.reorder_window.specs.State.{Holding, HoldingFits};
 
     ghost Value = { Holding T };
 
     ghost view = { λ w. record { size = w.size; held = w.held.items; last = w.last } };
 
-    ghost invariant = { λ w. HoldingFits (vec_len w.held) w.size (vec_capacity w.held) };
+    ghost invariant = { λ w. HoldingFits (length w.held.items) (deque_len w.held) w.size (deque_capacity w.held) };
 }
 
 impl<T> Window<T> {
@@ -45,7 +47,7 @@ impl<T> Window<T> {
         // The same, by what the window keeps.
         ensures empty { IfOk result (λ window. window ≡ record { size = size; held = []; last = None }) }
     {
-        match Vec::with_capacity(alloc, size as usize + 1) {
+        match VecDeque::with_capacity(alloc, size as usize + 1) {
             Ok(held) => Ok(Window {
                 size,
                 held,
