@@ -18,5 +18,6 @@ pub mod HeadBytes
 pub mod FieldRules
 pub mod HeadSaid
 pub mod HeadValues
+pub mod SecondForm
 pub mod FrameSpelling
 pub mod IntakeLaws

@@ -10,7 +10,7 @@ use Rattle.replay_form.specs.FrameFields.{Frame, IsFramePart, IsFrameWrongAt, Is
 use Rattle.replay_form.proofs.NumberLaws.{number_at-append}
 use Rattle.replay_form.proofs.PrefixLaws.{right-append, count-append, size-append, frame_good-append}
 use Rattle.replay_form.specs.Record.{AreFrames, last_stamp, first_stamp, IsCut, IsRecord, IsRecordWrongAt, EndsInside}
-use Rattle.replay_form.proofs.RecordLaws.{nothing_open}
+use Rattle.replay_form.proofs.RecordLaws.{nothing_open, cut-append}
 use Rattle.replay_form.specs.Standing.{HasNoHead, HasFrames, IsLeftOver}
 use Rattle.replay_form.specs.declared.record_head.RecordHead.{RecordHead}
 
@@ -200,3 +200,39 @@ one_standing h i fs gs bytes p q = (
 pub not_headless : (h : RecordHead) (fs : List Frame) (bytes : List ℕ) → HasFrames h fs bytes → ¬ HasNoHead bytes
 not_headless h fs bytes p (inl part) = cut_not_part h fs p.rest bytes p.cut part
 not_headless h fs bytes p (inr wrong) = cut_not_wrong h fs p.rest bytes wrong.0 p.cut wrong.1
+
+-- ---- more bytes
+
+-- frames with anything behind them begin the frames that the same bytes are cut into
+frames_more : (last : TimeStamp) (fs gs : List Frame) (b c r s : List ℕ) → AreFrames last fs b → AreFrames last gs c → b ++ r ≡ c ++ s
+    → Rests (last_stamp last gs) s → (later : List Frame) × (gs ≡ fs ++ later)
+unfolding Rests
+frames_more last [] gs b c r s p q e y = (gs, refl)
+frames_more last (f ∷ fs) [] b c r s p q e y =
+    absurd (y p.0 (p.1.0 ++ r) (ap (λ xs. xs ++ s) (sym q) ∙ sym e ∙ ap (λ xs. xs ++ r) p.1.1.0 ∙ append_assoc p.0 p.1.0 r) p.1.1.1.0.whole)
+frames_more last (f ∷ fs) (g ∷ gs) b c r s p q e y =
+    let same = frame_front last p.0 q.0 (p.1.0 ++ r) (q.1.0 ++ s) p.1.1.1.0.whole q.1.1.1.0.whole
+    (sym (append_assoc p.0 p.1.0 r) ∙ ap (λ xs. xs ++ r) (sym p.1.1.0) ∙ e ∙ ap (λ xs. xs ++ s) q.1.1.0 ∙ append_assoc q.0 q.1.0 s) in
+    let frame : f ≡ g = p.1.1.1.0.told ∙ ap frame_in same.0 ∙ sym q.1.1.1.0.told in
+    let later = frames_more f.stamp fs gs p.1.0 q.1.0 r s p.1.1.1.1 (subst (λ (h : Frame). AreFrames h.stamp gs q.1.0) (sym frame) q.1.1.1.1) same.1
+    (subst (λ (h : Frame). Rests (last_stamp h.stamp gs) s) (sym frame) y) in
+    (later.0, ap (λ h. h ∷ gs) (sym frame) ∙ ap (λ hs. f ∷ hs) later.1)
+
+-- what stands whole in bytes stands first in more of them,
+pub standing_stays : (h i : RecordHead) (fs gs : List Frame) (bytes more : List ℕ) → HasFrames h fs bytes → HasFrames i gs (bytes ++ more)
+    → (h ≡ i) × ((later : List Frame) × (gs ≡ fs ++ later))
+standing_stays h i fs gs bytes more p q =
+    let cut = cut-append h fs p.rest bytes more p.cut in
+    let same = head_front cut.header q.cut.header (cut.body ++ (p.rest ++ more)) (q.cut.body ++ q.rest) cut.says.whole q.cut.says.whole (sym cut.whole ∙ q.cut.whole) in (
+      cut_one_head h i fs gs (p.rest ++ more) q.rest (bytes ++ more) cut q.cut,
+      frames_more first_stamp fs gs cut.body q.cut.body (p.rest ++ more) q.rest cut.framed q.cut.framed same.1 (left_rests gs q.rest q.behind),
+    )
+
+-- so a header that stands in bytes stands in more of them,
+pub not_headless_later : (h : RecordHead) (fs : List Frame) (bytes more : List ℕ) → HasFrames h fs bytes → ¬ HasNoHead (bytes ++ more)
+not_headless_later h fs bytes more p (inl part) = cut_not_part h fs (p.rest ++ more) (bytes ++ more) (cut-append h fs p.rest bytes more p.cut) part
+not_headless_later h fs bytes more p (inr wrong) = cut_not_wrong h fs (p.rest ++ more) (bytes ++ more) wrong.0 (cut-append h fs p.rest bytes more p.cut) wrong.1
+
+-- and all of a record stands whole in its bytes
+pub record_stands : (h : RecordHead) (fs : List Frame) (bytes : List ℕ) → IsRecord h fs bytes → HasFrames h fs bytes
+record_stands h fs bytes p = record { rest = []; cut = p; behind = inl (nothing_open (last_stamp first_stamp fs)) }

@@ -4,6 +4,7 @@ pub mod HeadRanges
 pub mod Head
 pub mod HeadSpelling
 pub mod HeadValues
+pub mod SecondForm
 pub mod FrameFields
 pub mod FrameSpelling
 pub mod Taking

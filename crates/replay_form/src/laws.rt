@@ -1,4 +1,4 @@
-ghost use Rattle.std.specs.Prelude.{◌≡◌, ◌↔◌, ℕ, List};
+ghost use Rattle.std.specs.Prelude.{◌≡◌, ◌↔◌, ℕ, List, ◌++◌};
 ghost use Rattle.replay_form.specs.FrameFields.{Frame};
 ghost use Rattle.replay_form.specs.Head.{IsHead, IsSpelledHead};
 ghost use Rattle.replay_form.specs.HeadValues.{AreHeadValues};
@@ -10,7 +10,8 @@ ghost use Rattle.replay_form.specs.declared.record_head.RecordHead.{RecordHead};
 
 /// Bytes have one verdict: they are a record with one header and one list of frames, or wrong at one
 /// place, or they end inside the header or a frame. As far as they go, one header and one list of
-/// frames stand whole in them, or no header.
+/// frames stand whole in them, or no header: of a record, all of it; and with more bytes behind them the
+/// same header, and the same frames in front.
 ///
 /// So what `RecordReader::finish` answers is the only answer there is.
 pub fn one_verdict()
@@ -19,6 +20,10 @@ pub fn one_verdict()
         → IsRecord h fs bytes → IsRecord i gs bytes → (h ≡ i) × (fs ≡ gs) }
     ensures one_standing { (h i : RecordHead) (fs gs : List Frame) (bytes : List ℕ) → HasFrames h fs bytes → HasFrames i gs bytes → (h ≡ i) × (fs ≡ gs) }
     ensures not_headless { (h : RecordHead) (fs : List Frame) (bytes : List ℕ) → HasFrames h fs bytes → ¬ HasNoHead bytes }
+    ensures stands { (h : RecordHead) (fs : List Frame) (bytes : List ℕ) → IsRecord h fs bytes → HasFrames h fs bytes }
+    ensures stays { (h i : RecordHead) (fs gs : List Frame) (bytes more : List ℕ) → HasFrames h fs bytes → HasFrames i gs (bytes ++ more)
+        → (h ≡ i) × ((later : List Frame) × (gs ≡ fs ++ later)) }
+    ensures has_head_later { (h : RecordHead) (fs : List Frame) (bytes more : List ℕ) → HasFrames h fs bytes → ¬ HasNoHead (bytes ++ more) }
     ensures one_place { (fs gs : List Frame) (bytes : List ℕ) (a b : ℕ) → IsRecordWrongAt fs bytes a → IsRecordWrongAt gs bytes b → a ≡ b }
     ensures record_not_wrong { (h : RecordHead) (fs gs : List Frame) (bytes : List ℕ) (offset : ℕ) → IsRecord h fs bytes → ¬ IsRecordWrongAt gs bytes offset }
     ensures record_not_inside { (h : RecordHead) (fs : List Frame) (bytes : List ℕ) → IsRecord h fs bytes → ¬ EndsInside bytes }

@@ -26,7 +26,7 @@ pub use crate::event::{Event, RecordFault};
 pub use crate::frame_spelling::encode_frame;
 pub use crate::head_spelling::encode_head;
 pub use crate::laws::{one_verdict, one_verdict_within, rules_of_values};
-pub use crate::migrate::migrate_head;
+pub use crate::migrate::{migrate_head, migrate_head_into};
 pub use crate::reader::RecordReader;
 pub use crate::record_head::RecordHead;
 pub use crate::route_list::RouteList;

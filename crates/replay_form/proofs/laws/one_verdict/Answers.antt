@@ -26,3 +26,12 @@ returns-clause-one_standing c = laws.one_standing
 
 pub returns-clause-not_headless : goal.returns-clause-not_headless
 returns-clause-not_headless c = laws.not_headless
+
+pub returns-clause-stands : goal.returns-clause-stands
+returns-clause-stands c = laws.record_stands
+
+pub returns-clause-stays : goal.returns-clause-stays
+returns-clause-stays c = laws.standing_stays
+
+pub returns-clause-has_head_later : goal.returns-clause-has_head_later
+returns-clause-has_head_later c = laws.not_headless_later
