@@ -5,6 +5,8 @@ pub mod Telling
 pub mod Migrating
 pub mod OneSpelling
 pub mod MigratedLaws
+pub mod FormLaws
+pub mod ReleasesLaws
 pub mod ClapOptions
 pub mod ClapTurns
 pub mod ClapWalk

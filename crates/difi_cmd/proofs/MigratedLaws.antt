@@ -12,7 +12,8 @@ use Rattle.replay_form.specs.declared.record_head.RecordHead.{RecordHead}
 use Rattle.replay_form.proofs.NumberLaws.{number_at-take}
 use Rattle.replay_form.proofs.FrameLaws.{frame_ranges, whole_first}
 use Rattle.replay_form.proofs.HeadSpellingLaws.{size_told}
-use Rattle.difi_cmd.specs.Migrated.{in_second_form, AreFrameBytes, IsMigrated, ChangesForm}
+use Rattle.replay_form.specs.SecondForm.{in_second_form}
+use Rattle.difi_cmd.specs.Migrated.{AreFrameBytes, IsMigrated, ChangesForm}
 use Rattle.difi_cmd.proofs.OneSpelling.{one_frame, one_header}
 
 -- ---- frames
@@ -56,7 +57,7 @@ as_record last [] xs ys a b = b
 as_record last (frame ∷ frames) xs ys a b =
     (b.0, (b.1.0, (b.1.1.0, (frame_behind last frame a.0 b.0 a.1.1.1.0 b.1.1.1.0.says, as_record frame.stamp frames a.1.0 b.1.0 a.1.1.1.1 b.1.1.1.1))))
 
-front_fits : (bytes front back : List ℕ) → AreBytes bytes → bytes ≡ front ++ back → AreBytes front
+pub front_fits : (bytes front back : List ℕ) → AreBytes bytes → bytes ≡ front ++ back → AreBytes front
 front_fits bytes front back fit e = subst AreBytes (ap (take (length front)) e ∙ take_at front back (length front) refl) (AreBytes-take (length front) bytes fit)
 
 back_fits : (bytes front back : List ℕ) → AreBytes bytes → bytes ≡ front ++ back → AreBytes back
@@ -101,20 +102,23 @@ one_text head frames text other a b =
 pub again : (head : RecordHead) (frames : List Frame) (text other : List ℕ) → IsMigrated head frames text → IsMigrated (in_second_form head) frames other → other ≡ text
 again head frames text other a b = one_text head frames other text (b.0, (record { fit = b.1.0.fit; says = b.1.0.says }, b.1.1)) a
 
-pub is_record : (head : RecordHead) (frames : List Frame) (bytes text : List ℕ) → IsRecord head frames bytes → IsMigrated head frames text → IsRecord (in_second_form head) frames text
-is_record head frames bytes text cut m = record {
+pub second_record : (head : RecordHead) (frames : List Frame) (body text : List ℕ) → AreFrames first_stamp frames body → IsMigrated head frames text → IsRecord (in_second_form head) frames text
+second_record head frames body text framed m = record {
   header = m.0;
   body = m.1.1.0;
   whole = m.1.1.1.0 ∙ ap (λ l. m.0 ++ l) (sym (append-nil m.1.1.0));
   says = m.1.0.says;
-  framed = as_record first_stamp frames cut.body m.1.1.0 cut.framed m.1.1.1.1;
+  framed = as_record first_stamp frames body m.1.1.0 framed m.1.1.1.1;
 }
 
+pub is_record : (head : RecordHead) (frames : List Frame) (bytes text : List ℕ) → IsRecord head frames bytes → IsMigrated head frames text → IsRecord (in_second_form head) frames text
+is_record head frames bytes text cut m = second_record head frames cut.body text cut.framed m
+
 -- a record is its header and its frames
-whole_record : (head : RecordHead) (frames : List Frame) (bytes : List ℕ) → (cut : IsRecord head frames bytes) → bytes ≡ cut.header ++ cut.body
+pub whole_record : (head : RecordHead) (frames : List Frame) (bytes : List ℕ) → (cut : IsRecord head frames bytes) → bytes ≡ cut.header ++ cut.body
 whole_record head frames bytes cut = cut.whole ∙ ap (λ l. cut.header ++ l) (append-nil cut.body)
 
-frames_of : (head : RecordHead) (frames : List Frame) (bytes : List ℕ) → AreBytes bytes → (cut : IsRecord head frames bytes) → AreFrameBytes frames cut.body
+pub frames_of : (head : RecordHead) (frames : List Frame) (bytes : List ℕ) → AreBytes bytes → (cut : IsRecord head frames bytes) → AreFrameBytes frames cut.body
 frames_of head frames bytes fit cut =
     as_bytes first_stamp frames cut.body (back_fits bytes cut.header cut.body fit (whole_record head frames bytes cut)) cut.framed
 

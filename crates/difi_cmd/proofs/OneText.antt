@@ -25,7 +25,7 @@ one_part listing bytes text other (inr p) (inr q) =
     let same = one_standing p.0 q.0 p.1.0 q.1.0 bytes p.1.1.0 q.1.1.0 in
     p.1.1.1.1.1 ∙ ap (entries 1) (one_told listing p.0 q.0 p.1.0 q.1.0 p.1.1.1.0 q.1.1.1.0 same p.1.1.1.1.0 q.1.1.1.1.0) ∙ sym q.1.1.1.1.1
 
-whole_frames : (head : RecordHead) (fs : List Frame) (bytes : List ℕ) → IsRecord head fs bytes → HasFrames head fs bytes
+pub whole_frames : (head : RecordHead) (fs : List Frame) (bytes : List ℕ) → IsRecord head fs bytes → HasFrames head fs bytes
 whole_frames head fs bytes p = record { rest = []; cut = p; behind = inl (nothing_open (last_stamp first_stamp fs)) }
 
 -- a record has one text

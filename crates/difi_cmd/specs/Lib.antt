@@ -4,4 +4,5 @@ pub mod LineOfWords
 pub mod CommandOfOptions
 pub mod Outcome
 pub mod Migrated
+pub mod ReleasesOf
 pub mod Migrating

@@ -1,14 +1,12 @@
 -- What migrate writes of a record: its header in form 2, then its frames as they stand.
-use Rattle.std.specs.Prelude.{◌≡◌, ℕ, List, [], ◌∷◌, ◌++◌}
+use Rattle.std.specs.Prelude.{◌≡◌, ◌⊎◌, ℕ, List, [], ◌∷◌, ◌++◌}
 use Rattle.vrt_words.specs.Words.{AreBytes}
 use Rattle.replay_form.specs.FrameFields.{Frame, IsFrame}
 use Rattle.replay_form.specs.Head.{IsHead}
-use Rattle.replay_form.specs.Record.{first_stamp}
+use Rattle.replay_form.specs.Record.{first_stamp, IsRecord}
+use Rattle.replay_form.specs.SecondForm.{in_second_form}
+use Rattle.replay_form.specs.Standing.{HasNoHead, HasFrames}
 use Rattle.replay_form.specs.declared.record_head.RecordHead.{RecordHead}
-
--- the same header in form 2
-abbrev pub in_second_form : RecordHead → RecordHead
-in_second_form head = record head { form = 2 }
 
 -- these bytes are the frame
 pub record IsFrameBytes (frame : Frame) (bytes : List ℕ) : Type 0 where
@@ -42,3 +40,17 @@ pub record ChangesForm (head : RecordHead) (bytes text : List ℕ) : Type 0 wher
   pub says : IsHead head old
   pub migrated : IsMigratedHead head new
   pub text_is : text ≡ new ++ body
+
+-- the bytes are a record, and this is its migrated text
+abbrev pub IsMigratedOf : List ℕ → List ℕ → Type 0
+IsMigratedOf bytes text = (head : RecordHead) × ((frames : List Frame) × (IsRecord head frames bytes × IsMigrated head frames text))
+
+-- the same of the header and the frames that stand whole in the bytes
+abbrev pub IsMigratedSoFar : List ℕ → List ℕ → Type 0
+IsMigratedSoFar bytes text =
+    (HasNoHead bytes × (text ≡ []))
+    ⊎ ((head : RecordHead) × ((frames : List Frame) × (HasFrames head frames bytes × IsMigrated head frames text)))
+
+-- the bytes are a record of form 2
+abbrev pub IsOfSecondForm : List ℕ → Type 0
+IsOfSecondForm bytes = (head : RecordHead) × ((frames : List Frame) × (AreBytes bytes × (IsRecord head frames bytes × (head.form ≡ 2))))

@@ -11,7 +11,7 @@ use Rattle.difi_cmd.specs.declared.words.Line.{Line}
 use Rattle.difi_cmd.specs.declared.words.Line.TheVariants as lines
 use Rattle.difi_cmd.specs.declared.words.ListOptions.{ListOptions}
 use Rattle.difi_cmd.specs.Text.{AreEntries, IsWholeText}
-use Rattle.difi_gateway.specs.Replayed.{replay_of}
+use Rattle.difi_gateway.specs.Replayed.{IsReplayed}
 use Rattle.difi_cmd.specs.Migrated.{IsMigrated}
 
 -- what check and show tell of a record
@@ -50,11 +50,11 @@ wants_of (lines.List options) = false
 wants_of (lines.Migrate most) = false
 wants_of (lines.Replay most) = true
 
--- the outcome of what the line does
+-- the outcome of what the line does, and of replay what was written beside that of other records
 abbrev pub DoesLine : Status → Line → Moves → Type 0
 DoesLine status (lines.List options) moves = IsOutcome status (behaviour_of options) moves
 DoesLine status (lines.Migrate most) moves = IsOutcome status (migration_of most) moves
-DoesLine status (lines.Replay most) moves = IsOutcome status (replay_of most) moves
+DoesLine status (lines.Replay most) moves = IsReplayed status most moves
 
 -- the status that the bytes give, where no read and no write fails
 abbrev pub IsLineVerdict : Line → List ℕ → Status → Type 0

@@ -3,7 +3,9 @@ ghost use Rattle.vrt_words.specs.Words.{AreBytes};
 ghost use Rattle.replay_form.specs.FrameFields.{Frame};
 ghost use Rattle.replay_form.specs.Record.{IsRecord};
 ghost use Rattle.replay_form.specs.declared.record_head.RecordHead.{RecordHead};
-ghost use Rattle.difi_cmd.specs.Migrated.{IsMigrated, ChangesForm, in_second_form};
+ghost use Rattle.replay_form.specs.SecondForm.{in_second_form};
+ghost use Rattle.difi_cmd.specs.Migrated.{IsMigrated, IsMigratedOf, IsMigratedSoFar, IsOfSecondForm, ChangesForm};
+ghost use Rattle.difi_cmd.specs.ReleasesOf.{AreReleasesSoFar, HaveSameReleases, HasOnePortEach};
 ghost use Rattle.difi_texts.specs.declared.lines.Listing.{Listing};
 ghost use Rattle.replay_form.specs.RecordGrammar.{record_grammar};
 ghost use Rattle.record_run.specs.Outcome.{IsVerdict};
@@ -43,4 +45,22 @@ pub fn migrated_once()
         → IsMigrated head frames text → IsMigrated (in_second_form head) frames other → other ≡ text }
     ensures stays { (head : RecordHead) (frames : List Frame) (bytes : List ℕ)
         → AreBytes bytes → IsRecord head frames bytes → head.form ≡ 2 → IsMigrated head frames bytes }
+{}
+
+/// Laws that a proof can cite: a record that is migrated keeps its releases. What `replay` writes of the
+/// migrated text is what it writes of the record, and so it is of the frames that stand whole; each
+/// record has a migrated text, which is a record of form 2. The form of a record changes none of its
+/// releases: a record of form 2 with one port for each stream has those of the same record in form 1.
+#[inline]
+pub fn migrated_keeps_its_releases()
+    ensures whole { (bytes text : List ℕ) → IsMigratedOf bytes text → HaveSameReleases bytes text }
+    ensures so_far { (bytes text releases : List ℕ)
+        → IsMigratedSoFar bytes text → AreReleasesSoFar bytes releases ↔ AreReleasesSoFar text releases }
+    ensures valid { (bytes text : List ℕ) → IsMigratedOf bytes text → IsOfSecondForm text }
+    ensures there { (head : RecordHead) (frames : List Frame) (bytes : List ℕ) → AreBytes bytes
+        → IsRecord head frames bytes → (text : List ℕ) × IsMigratedOf bytes text }
+    ensures one_port { (head other : RecordHead) (frames : List Frame) (bytes others : List ℕ) → AreBytes bytes → AreBytes others
+        → IsRecord head frames bytes → IsRecord other frames others → HasOnePortEach head other → HaveSameReleases bytes others }
+    ensures other_form { (head : RecordHead) (form : ℕ) (frames : List Frame) (bytes others : List ℕ)
+        → IsRecord head frames bytes → IsRecord (record head { form = form }) frames others → HaveSameReleases bytes others }
 {}

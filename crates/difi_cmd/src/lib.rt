@@ -6,8 +6,6 @@ mod judging;
 mod laws;
 mod list;
 mod migrate;
-#[cfg(test)]
-mod migrate_tests;
 mod migration;
 mod options;
 #[cfg(test)]
@@ -20,7 +18,9 @@ mod words;
 #[cfg(test)]
 mod words_tests;
 
-pub use crate::laws::{bytes_have_one_status, bytes_have_one_text, migrated_once};
+pub use crate::laws::{
+    bytes_have_one_status, bytes_have_one_text, migrated_keeps_its_releases, migrated_once,
+};
 pub use crate::run::difi_run;
 pub use crate::words::words_ask_for_one_line;
 pub use record_run::{Options, Status};

@@ -1,9 +1,5 @@
-ghost use Rattle.std.specs.Prelude.{◌≡◌, ◌≤◌, [], length, false, vec_capacity};
-ghost use Rattle.replay_form.specs.HeadValues.{AreHeadValues};
-ghost use Rattle.difi_cmd.specs.Migrated.{in_second_form};
-
 use record_run::Teller;
-use replay_form::{RecordHead, RecordReader, Route, RouteList, encode_head};
+use replay_form::{RecordHead, RecordReader, Route, encode_head, migrate_head_into};
 use std::alloc::Global;
 use std::marker::Model;
 use std::mem;
@@ -73,7 +69,7 @@ impl Migration {
         ensures { IsStarted head.now self.old self.new }
     {
         let routes = mem::replace(&mut self.routes, Vec::new(alloc));
-        let migrated = second_form(head, routes);
+        let migrated = migrate_head_into(head, routes);
         let length = encode_head(&migrated, &mut self.header);
         self.header.truncate(length);
         self.started = true;
@@ -90,30 +86,6 @@ impl Migration {
     {
         out.push(bytes);
         self.frames += 1;
-    }
-}
-
-// The same header in form 2, with its routes in this room.
-fn second_form(head: &RecordHead, mut routes: Vec<Route>) -> RecordHead
-    requires valid { AreHeadValues head.now }
-    requires empty { routes.items ≡ [] }
-    requires room { 256 ≤ vec_capacity routes }
-    ensures same { result ≡ in_second_form head.now }
-    ensures valid { AreHeadValues result }
-{
-    match routes.extend_from_slice(head.routes.as_slice()) {
-        Ok(()) => {}
-        Err(_) => unreachable!(),
-    }
-    RecordHead {
-        form: 2,
-        profile: head.profile,
-        max_words: head.max_words,
-        limits: head.limits,
-        identity: head.identity,
-        initial: head.initial,
-        bounds: head.bounds,
-        routes: RouteList::new(routes),
     }
 }
 

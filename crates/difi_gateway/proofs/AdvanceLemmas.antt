@@ -13,7 +13,7 @@ use Rattle.release_form.specs.declared.shown.Shown.TheVariants as shown
 use Rattle.difi_gateway.specs.Contents.{Received}
 use Rattle.difi_gateway.specs.Told.{Item}
 use Rattle.difi_gateway.specs.Releases.{Release, copies, counts_of, all_told, part_of, bound_samples, uncertain_samples, raw_packets, refused_frames, versions}
-use Rattle.difi_gateway.specs.State.{Gated, StandsFor, IsNoneBehind, end_left, IsWriting, IsWithin, is_drawn, is_ended, items_of, items_left, releases_of, copies_left, bytes_taken}
+use Rattle.difi_gateway.specs.State.{Gated, StandsFor, IsNoneBehind, end_left, IsSound, IsWithin, is_drawn, is_ended, items_of, items_left, releases_of, copies_left, bytes_taken}
 use Rattle.difi_gateway.specs.Drawing.{IsDrawn, IsGoneOn, IsEndTold, drawn_from}
 use Rattle.difi_gateway.specs.Writing.{IsCopyWritten, IsEndWritten, FitsIn}
 use Rattle.difi_gateway.specs.Written.{CanBeWritten}
@@ -110,9 +110,9 @@ moved_same index old new (drawn.Nothing, by) =
     gone_same old.stage old new refl (subst (λ (g : Gated). IsGoneOn g.stage g new) same by.1.1)
 
 -- what is true of every gateway stays so
-pub writing_kept : (old new : Gated) (size room size' given : ℕ) (w : IsWriting old size room) → IsSameWay old new
-    → StandsFor new w.head w.received (is_ended new.stage) given → IsWithin new.stage (length new.binders) → size' ≤ room → IsWriting new size' room
-writing_kept old new size room size' given w same now within fits = record {
+pub sound_kept : (old new : Gated) (given : ℕ) (w : IsSound old) → IsSameWay old new
+    → StandsFor new w.head w.received (is_ended new.stage) given → IsWithin new.stage (length new.binders) → IsSound new
+sound_kept old new given w same now within = record {
   head = w.head;
   received = w.received;
   given = given;
@@ -120,8 +120,6 @@ writing_kept old new size room size' given w same now within fits = record {
   buffers = omega (arith, w.buffers, w.stands.buffers.all, now.buffers.all, same.capacity);
   small = omega (arith, w.small, same.taken);
   drawing = within;
-  longest = w.longest;
-  within = fits;
 }
 
 -- ---- counts

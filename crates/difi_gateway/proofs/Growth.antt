@@ -3,7 +3,6 @@ use Rattle.std.proofs.Common.{◌≡◌, ℕ, List, [], ◌∷◌, ◌++◌, len
 use Rattle.std.proofs.lemmas.Grind.{flat_map-append}
 use Rattle.std.proofs.lemmas.List.{append-nil}
 use Rattle.std.specs.List.{AllByRecursion}
-use Rattle.vrt_words.specs.Words.{AreBytes}
 use Rattle.vrt_fields.specs.declared.route.Route.{Route}
 use Rattle.replay_form.specs.FrameFields.{Frame}
 use Rattle.replay_form.specs.declared.record_head.RecordHead.{RecordHead}
@@ -11,7 +10,7 @@ use Rattle.release_form.specs.declared.shown.Shown.TheVariants as shown
 use Rattle.difi_gateway.specs.Contents.{Received, IsReceived, frame_of, AreReceived}
 use Rattle.difi_gateway.specs.Told.{Item, told_by, told_from, told, told_at_end}
 use Rattle.difi_gateway.specs.Releases.{Release, copies_of, copies, counts_of, part_of, all_told, out_of, AreRecordsOf, IsPartOf, IsOutOf}
-use Rattle.difi_gateway.proofs.OneReading.{AreBytes-front, one_part}
+use Rattle.difi_gateway.proofs.OneReading.{one_part}
 
 -- ---- in releases
 
@@ -99,17 +98,17 @@ out_begins head frames bytes h =
     record { front = b.front; rest = b.rest; bytes_are = b.bytes_are; is = (h.0, (h.1.0, b.is)) }
 
 -- the bytes of more frames begin with those of the first of them
-pub part_in_part : (head : RecordHead) (frames later : List Frame) (a b : List ℕ) → AreBytes a → AreBytes b → IsPartOf head frames a → IsPartOf head (frames ++ later) b
+pub part_in_part : (head : RecordHead) (frames later : List Frame) (a b : List ℕ) → IsPartOf head frames a → IsPartOf head (frames ++ later) b
     → (rest : List ℕ) × (b ≡ a ++ rest)
-part_in_part head frames later a b p q h g =
+part_in_part head frames later a b h g =
     let begun = part_begins head frames later b g in
-    let same = one_part head frames begun.front a (AreBytes-front begun.front begun.rest (subst AreBytes begun.bytes_are q)) p begun.is h in
+    let same = one_part head frames begun.front a begun.is h in
     (begun.rest, begun.bytes_are ∙ ap (λ xs. xs ++ begun.rest) same)
 
 -- and so do those with the end
-pub part_in_out : (head : RecordHead) (frames later : List Frame) (a b : List ℕ) → AreBytes a → AreBytes b → IsPartOf head frames a → IsOutOf head (frames ++ later) b
+pub part_in_out : (head : RecordHead) (frames later : List Frame) (a b : List ℕ) → IsPartOf head frames a → IsOutOf head (frames ++ later) b
     → (rest : List ℕ) × (b ≡ a ++ rest)
-part_in_out head frames later a b p q h g =
+part_in_out head frames later a b h g =
     let begun = out_begins head (frames ++ later) b g in
-    let more = part_in_part head frames later a begun.front p (AreBytes-front begun.front begun.rest (subst AreBytes begun.bytes_are q)) h begun.is in
+    let more = part_in_part head frames later a begun.front h begun.is in
     (more.0 ++ begun.rest, begun.bytes_are ∙ ap (λ xs. xs ++ begun.rest) more.1 ∙ append_assoc a more.0 begun.rest)

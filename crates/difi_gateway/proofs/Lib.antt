@@ -15,6 +15,7 @@ pub mod MoveLemmas
 pub mod AdvanceLemmas
 pub mod NearLemmas
 pub mod StepLemmas
+pub mod GivingLemmas
 pub mod OneReading
 pub mod Growth
 pub mod StreamRuns
@@ -25,4 +26,5 @@ pub mod OneStream
 pub mod WritableItems
 pub mod OtherForm
 pub mod OpeningLemmas
+pub mod RunTexts
 pub mod ReplayLemmas

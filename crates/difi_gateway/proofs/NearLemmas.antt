@@ -110,7 +110,7 @@ owed_where_told s (telling.Refused frame port refusal detail stamp) n told = ref
 owed_where_told s (telling.Run index lost r) n told = refl
 owed_where_told s (telling.Version index) n told = refl
 
-placed_below : (routes : List Route) (t : Telling) (place : ℕ) → IsPlaced routes t place → t ≢ telling.Nothing → place < number_of_copies routes t
+pub placed_below : (routes : List Route) (t : Telling) (place : ℕ) → IsPlaced routes t place → t ≢ telling.Nothing → place < number_of_copies routes t
 placed_below routes telling.Nothing place placed told = absurd (told refl)
 placed_below routes (telling.Refused frame port refusal detail stamp) place placed told = omega (arith, placed)
 placed_below routes (telling.Run index lost r) place placed told = placed.1

@@ -1,7 +1,7 @@
 -- A record is read in one way, and has one text.
-use Rattle.std.proofs.Common.{◌≡◌, ℕ, zero, suc, List, [], ◌∷◌, ◌++◌, map, refl, sym, ap, ◌∙◌, subst, arith}
+use Rattle.std.proofs.Common.{◌≡◌, ℕ, List, [], ◌∷◌, ◌++◌, map, refl, sym, ap, ◌∙◌, subst, arith}
 use Rattle.std.specs.List.{AllByRecursion}
-use Rattle.vrt_words.specs.Words.{words_of, AreBytes}
+use Rattle.vrt_words.specs.Words.{words_of}
 use Rattle.vrt_words.proofs.BeginLaws.{one_place}
 use Rattle.difi_packet.specs.Packet.{IsPacket}
 use Rattle.difi_packet.proofs.PacketLaws.{one_packet}
@@ -42,31 +42,20 @@ one_received head frames a b p q = one_each head a b (sym p.frames_are ∙ q.fra
 
 -- ---- bytes
 
-pub AreBytes-front : (xs ys : List ℕ) → AreBytes (xs ++ ys) → AreBytes xs
-AreBytes-front [] ys h i = omega arith
-AreBytes-front (x ∷ xs) ys h zero = h 0
-AreBytes-front (x ∷ xs) ys h (suc i) = AreBytes-front xs ys (λ k. h (suc k)) i
-
-pub AreBytes-back : (xs ys : List ℕ) → AreBytes (xs ++ ys) → AreBytes ys
-AreBytes-back [] ys h = h
-AreBytes-back (x ∷ xs) ys h = AreBytes-back xs ys (λ k. h (suc k))
-
 -- releases have one list of records
-pub one_records : (releases : List Release) (a b : List ℕ) → AreBytes a → AreBytes b → AreRecordsOf releases a → AreRecordsOf releases b → a ≡ b
-one_records [] a b p q r s = r ∙ sym s
-one_records (release ∷ releases) a b p q r s =
-    let pa = subst AreBytes r.1.1.1.1 p in
-    let pb = subst AreBytes s.1.1.1.1 q in
-    let first = one_record release.shown release.payload r.0 s.0 (AreBytes-front r.0 r.1.0 pa) (AreBytes-front s.0 s.1.0 pb) r.1.1.0 s.1.1.0 in
-    let rest = one_records releases r.1.0 s.1.0 (AreBytes-back r.0 r.1.0 pa) (AreBytes-back s.0 s.1.0 pb) r.1.1.1.0 s.1.1.1.0 in
+pub one_records : (releases : List Release) (a b : List ℕ) → AreRecordsOf releases a → AreRecordsOf releases b → a ≡ b
+one_records [] a b r s = r ∙ sym s
+one_records (release ∷ releases) a b r s =
+    let first = one_record release.shown release.payload r.0 s.0 r.1.1.0.fit s.1.1.0.fit r.1.1.0.is s.1.1.0.is in
+    let rest = one_records releases r.1.0 s.1.0 r.1.1.1.0 s.1.1.1.0 in
     r.1.1.1.1 ∙ ap (λ xs. xs ++ r.1.0) first ∙ ap (λ xs. s.0 ++ xs) rest ∙ sym s.1.1.1.1
 
-pub one_part : (head : RecordHead) (frames : List Frame) (a b : List ℕ) → AreBytes a → AreBytes b → IsPartOf head frames a → IsPartOf head frames b → a ≡ b
-one_part head frames a b p q r s =
+pub one_part : (head : RecordHead) (frames : List Frame) (a b : List ℕ) → IsPartOf head frames a → IsPartOf head frames b → a ≡ b
+one_part head frames a b r s =
     let same = ap (part_of head) (one_received head frames r.0 s.0 r.1.0 s.1.0) in
-    one_records (part_of head s.0) a b p q (subst (λ rs. AreRecordsOf rs a) same r.1.1) s.1.1
+    one_records (part_of head s.0) a b (subst (λ rs. AreRecordsOf rs a) same r.1.1) s.1.1
 
-pub one_out : (head : RecordHead) (frames : List Frame) (a b : List ℕ) → AreBytes a → AreBytes b → IsOutOf head frames a → IsOutOf head frames b → a ≡ b
-one_out head frames a b p q r s =
+pub one_out : (head : RecordHead) (frames : List Frame) (a b : List ℕ) → IsOutOf head frames a → IsOutOf head frames b → a ≡ b
+one_out head frames a b r s =
     let same = ap (out_of head) (one_received head frames r.0 s.0 r.1.0 s.1.0) in
-    one_records (out_of head s.0) a b p q (subst (λ rs. AreRecordsOf rs a) same r.1.1) s.1.1
+    one_records (out_of head s.0) a b (subst (λ rs. AreRecordsOf rs a) same r.1.1) s.1.1

@@ -3,13 +3,11 @@ use Rattle.std.proofs.Common.{◌≡◌, ℕ, ◌==◌, Bool, true, false, cond,
 use Rattle.std.proofs.lemmas.List.{append-nil}
 use Rattle.std.proofs.lemmas.List.Elements.{filter-append}
 use Rattle.std.specs.List.{AllByRecursion}
-use Rattle.vrt_words.specs.Words.{AreBytes}
 use Rattle.vrt_fields.specs.Route.{AreRoutes}
 use Rattle.vrt_fields.specs.declared.route.Route.{Route}
 use Rattle.difi_packet.specs.Packet.{DataValue, ContextValue, VersionValue, ControlValue, CancelValue, AckValue}
 use Rattle.replay_form.specs.FrameFields.{Frame}
 use Rattle.replay_form.specs.declared.record_head.RecordHead.{RecordHead}
-use Rattle.replay_form.proofs.Putting.{AreBytes-append}
 use Rattle.release_form.specs.declared.shown.Shown.TheVariants as shown
 use Rattle.sample_binder.specs.Calls.{ContextCall, DataCall, EndCall, outputs_of}
 use Rattle.sample_binder.specs.declared.run.Run.{Run}
@@ -18,7 +16,7 @@ use Rattle.difi_gateway.specs.Calls.{buffer_of, calls_by, calls}
 use Rattle.difi_gateway.specs.Told.{Item, RefusedItem, RunItem, VersionItem, runs_told, is_listed, told}
 use Rattle.difi_gateway.specs.Releases.{Release, ports_of, copies_of, copies, counts_of, part_of, all_told, out_of, AreRecordsOf}
 use Rattle.difi_gateway.specs.Isolation.{is_run_of, runs_of_stream, is_of_stream, only, is_shown_of, releases_of_stream, AreStreamRecords}
-use Rattle.difi_gateway.proofs.OneReading.{AreBytes-front, AreBytes-back, one_records}
+use Rattle.difi_gateway.proofs.OneReading.{one_records}
 use Rattle.difi_gateway.proofs.RefusedFrames.{unlisted_told, unlisted_all}
 use Rattle.difi_gateway.proofs.StreamRuns.{true_or_false, told_runs, all_runs}
 
@@ -159,33 +157,18 @@ module _ (stream : ℕ) where
       let part : List ℕ = cond (is_shown_of stream release.shown) (h.0 ++ more.0) more.0 in
       (part, (h.0, (h.1.0, (more.0, (h.1.1.0, (more.1, (h.1.1.1.1, refl)))))))
 
-  part_bytes : (releases : List Release) (bytes part : List ℕ) → AreStreamRecords stream releases bytes part → AreBytes bytes → AreBytes part
-  part_bytes [] bytes part h fits = subst AreBytes (h.0 ∙ sym h.1) fits
-  part_bytes (release ∷ releases) bytes part h fits =
-      let first = h.0 in
-      let rest = h.1.0 in
-      let others = h.1.1.0 in
-      let inside = h.1.1.1 in
-      let all = subst AreBytes inside.1.1.0 fits in
-      let more = part_bytes releases rest others inside.1.0 (AreBytes-back first rest all) in
-      subst AreBytes (sym inside.1.1.1) (chosen (is_shown_of stream release.shown) (AreBytes-front first rest all) more)
-    where
-      chosen : (b : Bool) → AreBytes h.0 → AreBytes h.1.1.0 → AreBytes (cond b (h.0 ++ h.1.1.0) h.1.1.0)
-      chosen true p q = AreBytes-append h.0 h.1.1.0 p q
-      chosen false p q = q
-
-  same_records : (xs ys : List Release) (bytes others part other : List ℕ) → releases_of_stream stream xs ≡ releases_of_stream stream ys → AreBytes bytes → AreBytes others
+  same_records : (xs ys : List Release) (bytes others part other : List ℕ) → releases_of_stream stream xs ≡ releases_of_stream stream ys
       → AreStreamRecords stream xs bytes part → AreStreamRecords stream ys others other → part ≡ other
-  same_records xs ys bytes others part other e p q r s =
-      one_records (releases_of_stream stream ys) part other (part_bytes xs bytes part r p) (part_bytes ys others other s q)
+  same_records xs ys bytes others part other e r s =
+      one_records (releases_of_stream stream ys) part other
       (subst (λ rs. AreRecordsOf rs part) e (stream_records xs bytes part r)) (stream_records ys others other s)
 
-pub own_part_bytes : (head : RecordHead) (stream : ℕ) (received : List Received) (bytes others part other : List ℕ) → AreBytes bytes → AreBytes others
+pub own_part_bytes : (head : RecordHead) (stream : ℕ) (received : List Received) (bytes others part other : List ℕ)
     → AreStreamRecords stream (part_of head received) bytes part → AreStreamRecords stream (part_of head (only stream received)) others other → part ≡ other
-own_part_bytes head stream received bytes others part other p q r s =
-    same_records stream (part_of head received) (part_of head (only stream received)) bytes others part other (own_part_releases head stream received) p q r s
+own_part_bytes head stream received bytes others part other r s =
+    same_records stream (part_of head received) (part_of head (only stream received)) bytes others part other (own_part_releases head stream received) r s
 
-pub own_bytes : (head : RecordHead) (second : Bool) (stream : ℕ) (received : List Received) (bytes others part other : List ℕ) → AreRoutes second head.routes → AreBytes bytes → AreBytes others
+pub own_bytes : (head : RecordHead) (second : Bool) (stream : ℕ) (received : List Received) (bytes others part other : List ℕ) → AreRoutes second head.routes
     → AreStreamRecords stream (out_of head received) bytes part → AreStreamRecords stream (out_of head (only stream received)) others other → part ≡ other
-own_bytes head second stream received bytes others part other routes p q r s =
-    same_records stream (out_of head received) (out_of head (only stream received)) bytes others part other (own_releases head second stream received routes) p q r s
+own_bytes head second stream received bytes others part other routes r s =
+    same_records stream (out_of head received) (out_of head (only stream received)) bytes others part other (own_releases head second stream received routes) r s

@@ -7,7 +7,7 @@ use Rattle.vrt_fields.specs.declared.route.Route.{Route}
 use Rattle.replay_form.specs.HeadValues.{AreHeadValues}
 use Rattle.replay_form.specs.declared.record_head.RecordHead.{RecordHead}
 use Rattle.sample_binder.specs.Binder.{Bound, number_kept}
-use Rattle.difi_gateway.specs.State.{Gated, IsBinder, IsIdle, IsWriting, IsWithin, StandsFor, HasRoom, number_of_buffers, calls_with, is_ended}
+use Rattle.difi_gateway.specs.State.{Gated, IsBinder, IsIdle, IsAtHalt, IsAtRest, IsReady, IsSound, IsWithin, StandsFor, HasRoom, number_of_buffers, calls_with, is_ended}
 use Rattle.difi_gateway.specs.Opened.{IsFresh, IsOpened, opened}
 use Rattle.difi_gateway.specs.declared.stage.Stage.TheVariants as stages
 
@@ -80,10 +80,8 @@ opened_stands head gate values is =
     subst (λ g. StandsFor g head [] false 0) (sym is.is_opened)
     (fresh_stands head gate.binders gate.empty gate.capacity values is.all is.fresh is.number is.rooms)
 
--- so it is one that can write
-pub opened_writes : (head : RecordHead) (gate : Gated) (room : ℕ) → AreHeadValues head → IsOpened head gate → room ≡ 262144
-    → IsWriting gate 0 room
-opened_writes head gate room values is whole = record {
+pub opened_sound : (head : RecordHead) (gate : Gated) → AreHeadValues head → IsOpened head gate → IsSound gate
+opened_sound head gate values is = record {
   head = head;
   received = [];
   given = 0;
@@ -92,6 +90,15 @@ opened_writes head gate room values is whole = record {
   buffers = omega (arith, is.number, is.memory, none_kept head gate.binders is.fresh);
   small = omega (arith, ap (λ (g : Gated). g.taken) is.is_opened);
   drawing = subst (λ (g : Gated). IsWithin g.stage (length g.binders)) (sym is.is_opened) tt;
-  longest = whole;
-  within = omega arith;
+}
+
+-- it waits, and tells nothing
+pub opened_rests : (head : RecordHead) (gate : Gated) → IsOpened head gate → IsAtRest gate
+opened_rests head gate is = record { stage = ap (λ (g : Gated). g.stage) is.is_opened; telling = ap (λ (g : Gated). g.telling) is.is_opened }
+
+pub opened_ready : (head : RecordHead) (gate : Gated) (room : ℕ) → AreHeadValues head → IsOpened head gate → room ≡ 262144 → IsReady gate room
+opened_ready head gate room values is longest = record {
+  sound = opened_sound head gate values is;
+  ahead = λ quiet. subst (λ s. IsAtHalt s (length gate.binders)) (sym (opened_rests head gate is).stage) tt;
+  longest = longest;
 }

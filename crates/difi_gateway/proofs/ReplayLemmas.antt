@@ -3,6 +3,7 @@ use Rattle.std.proofs.Common.{◌≡◌, ◌⊎◌, inl, inr, ℕ, zero, suc, �
 use Rattle.std.proofs.Math.Seq.{drop-nil}
 use Rattle.std.proofs.lemmas.Option.{get_or_from_slice_get}
 use Rattle.std.specs.Prelude.{◌<◌, ◌^◌, if◌then◌else◌, is_some}
+use Rattle.vrt_words.specs.Words.{AreBytes}
 use Rattle.vrt_time.specs.Time.{TimeStamp}
 use Rattle.vrt_fields.specs.declared.route.Route.{Route}
 use Rattle.replay_form.specs.FrameFields.{Frame}
@@ -14,12 +15,12 @@ use Rattle.record_run.specs.Outcome.{Moves, IsOutcome}
 use Rattle.record_run.specs.declared.status.Status.{Status}
 use Rattle.record_run.proofs.Retold.{outcome_retold}
 use Rattle.release_form.specs.Release.{IsRecordOf}
-use Rattle.difi_gateway.specs.Contents.{Content, IsContent, Received, AreReceived}
+use Rattle.difi_gateway.specs.Contents.{Content, IsContent, Received}
 use Rattle.difi_gateway.specs.Releases.{Release, AreRecordsOf, copies, part_of, out_of}
-use Rattle.difi_gateway.specs.State.{Gated, Writing, StandsFor, IsAtRest, copies_left, end_left, is_ended, items_in, items_left, packet_in, releases_of}
+use Rattle.difi_gateway.specs.State.{Gated, StandsFor, IsAtRest, end_left, is_ended, items_in, items_left, packet_in, releases_of}
 use Rattle.difi_gateway.specs.Progress.{IsAllGiven, IsGiven, IsSettledAt, may_be_told, owed_by_telling, records_owed}
 use Rattle.difi_gateway.specs.Replayed.{replay_of, replay_tells}
-use Rattle.difi_gateway.specs.Replaying.{HasHistory, IsOfHistory, IsToldAt, IsToldBy, IsToldOpen, is_over, owed_by, taken_by, told_by_gateway}
+use Rattle.difi_gateway.specs.Replaying.{IsToldAt, IsToldBy, IsToldOpen, is_over, owed_by, taken_by, told_by_gateway}
 use Rattle.difi_gateway.specs.declared.telling.Telling.{Telling}
 use Rattle.difi_gateway.specs.declared.telling.Telling.TheVariants as telling
 use Rattle.difi_gateway.specs.declared.stage.Stage.{Stage}
@@ -34,12 +35,12 @@ drop_here [] (suc n) x e = absurd (cc)
 drop_here {X} (y ∷ xs) zero x e = ap (λ (z : X). z ∷ xs) (get_or_from_slice_get (y ∷ xs) 0 x x e)
 drop_here (y ∷ xs) (suc n) x e = drop_here xs n x e
 
-first_given : (releases : List Release) (given : ℕ) (release : Release) (bytes more : List ℕ) → slice_get releases given ≡ Some release → IsRecordOf release.shown release.payload bytes
-    → AreRecordsOf (drop (given + 1) releases) more → AreRecordsOf (drop given releases) (bytes ++ more)
-first_given releases given release bytes more at is rest =
+first_given : (releases : List Release) (given : ℕ) (release : Release) (bytes more : List ℕ) → slice_get releases given ≡ Some release → AreBytes bytes
+    → IsRecordOf release.shown release.payload bytes → AreRecordsOf (drop (given + 1) releases) more → AreRecordsOf (drop given releases) (bytes ++ more)
+first_given releases given release bytes more at fit is rest =
     let next : given + 1 ≡ suc given = omega arith in
     subst (λ rs. AreRecordsOf rs (bytes ++ more)) (sym (drop_here releases given release at))
-    (bytes, (more, (is, (subst (λ n. AreRecordsOf (drop n releases) more) next rest, refl))))
+    (bytes, (more, (record { fit = fit; is = is }, (subst (λ n. AreRecordsOf (drop n releases) more) next rest, refl))))
 
 in_front : {X : Type 0} (xs ys : List X) (n : ℕ) (x : X) → slice_get xs n ≡ Some x → slice_get (xs ++ ys) n ≡ Some x
 in_front [] ys n x e = absurd (cc)
@@ -68,10 +69,10 @@ TakesFrame stamp port datagram old new =
     → (content : Content) × IsContent head datagram content
     × StandsFor new head (received ++ record { frame = record { stamp = stamp; port = port; datagram = datagram }; content = content } ∷ []) false given
 
-abbrev pub GivesNext : Writing → Writing → Type 0
-GivesNext old new =
-    (head : RecordHead) (received : List Received) (ended : Bool) (given : ℕ) → StandsFor old.gate head received ended given
-    → IsGiven head received ended given new.written × StandsFor new.gate head received ended (given + 1)
+abbrev pub GivesNext : Gated → List ℕ → Gated → Type 0
+GivesNext old bytes new =
+    (head : RecordHead) (received : List Received) (ended : Bool) (given : ℕ) → StandsFor old head received ended given
+    → IsGiven head received ended given bytes × StandsFor new head received ended (given + 1)
 
 abbrev pub GivesNone : Gated → Gated → Type 0
 GivesNone old new =
@@ -80,56 +81,6 @@ GivesNone old new =
 
 abbrev pub TakesEnd : Gated → Gated → Type 0
 TakesEnd old new = (head : RecordHead) (received : List Received) (given : ℕ) → StandsFor old head received false given → StandsFor new head received true given
-
--- ---- there are frames that it stands for
-
-pub begun_history : (head : RecordHead) (new : Gated) → StandsFor new head [] false 0 → IsOfHistory new
-begun_history head new stands = record {
-  head = head;
-  received = [];
-  given = 0;
-  stands = subst (λ (b : Bool). StandsFor new head [] b 0) stands.ended_is stands;
-}
-
-still_open : (gate : Gated) → is_ended gate.stage ≡ false → (h : IsOfHistory gate) → StandsFor gate h.head h.received false h.given
-still_open gate e h = subst (λ (b : Bool). StandsFor gate h.head h.received b h.given) e h.stands
-
-pub frame_open_still : (stamp : TimeStamp) (port : ℕ) (datagram : List ℕ) (old new : Gated) → TakesFrame stamp port datagram old new → is_ended old.stage ≡ false → IsOfHistory old → is_ended new.stage ≡ false
-frame_open_still stamp port datagram old new takes e h = sym ((takes h.head h.received h.given (still_open old e h)).2).ended_is
-
-pub frame_history : (stamp : TimeStamp) (port : ℕ) (datagram : List ℕ) (old new : Gated) → TakesFrame stamp port datagram old new → is_ended old.stage ≡ false → IsOfHistory old → IsOfHistory new
-frame_history stamp port datagram old new takes e h =
-    let t = takes h.head h.received h.given (still_open old e h) in
-    let now = h.received ++ record { frame = record { stamp = stamp; port = port; datagram = datagram }; content = t.0 } ∷ [] in record {
-      head = h.head;
-      received = now;
-      given = h.given;
-      stands = subst (λ (b : Bool). StandsFor new h.head now b h.given) t.2.ended_is t.2;
-    }
-
-pub next_history : (old new : Writing) → GivesNext old new → is_ended new.gate.stage ≡ is_ended old.gate.stage → IsOfHistory old.gate → IsOfHistory new.gate
-next_history old new gives same h = record {
-  head = h.head;
-  received = h.received;
-  given = h.given + 1;
-  stands = subst (λ (b : Bool). StandsFor new.gate h.head h.received b (h.given + 1)) (sym same) (gives h.head h.received (is_ended old.gate.stage) h.given h.stands).1;
-}
-
-pub none_history : (old new : Gated) → GivesNone old new → is_ended new.stage ≡ is_ended old.stage → IsOfHistory old → IsOfHistory new
-none_history old new gives same h = record {
-  head = h.head;
-  received = h.received;
-  given = h.given;
-  stands = subst (λ (b : Bool). StandsFor new h.head h.received b h.given) (sym same) (gives h.head h.received (is_ended old.stage) h.given h.stands).1;
-}
-
-pub end_history : (old new : Gated) → TakesEnd old new → is_ended old.stage ≡ false → is_ended new.stage ≡ true → IsOfHistory old → IsOfHistory new
-end_history old new takes e now h = record {
-  head = h.head;
-  received = h.received;
-  given = h.given;
-  stands = subst (λ (b : Bool). StandsFor new h.head h.received b h.given) (sym now) (takes h.head h.received h.given (still_open old e h));
-}
 
 -- ---- what the reader lends
 
@@ -143,35 +94,35 @@ frame_is false frame other e same = cc
 
 -- ---- the header
 
-none_so_far : (gateway : Option Writing) (answer : Bool) → answer ≡ is_some gateway → answer ≡ false → gateway ≡ None
+none_so_far : (gateway : Option Gated) (answer : Bool) → answer ≡ is_some gateway → answer ≡ false → gateway ≡ None
 none_so_far None answer is e = refl
 none_so_far (Some it) answer is e = absurd (cc)
 
 taken_none : (head : RecordHead) (new : Gated) → StandsFor new head [] false 0 → new.taken ≡ 0
 taken_none head new stands = stands.taken
 
-pub begun_keeps : (head : RecordHead) (inside old : Option Writing) (new : Writing) (answer : Bool) → inside ≡ old → answer ≡ is_some inside → answer ≡ false
-    → StandsFor new.gate head [] false 0 → KeepsCount (told_by_gateway old) (told_by_gateway (Some new))
+pub begun_keeps : (head : RecordHead) (inside old : Option Gated) (new : Gated) (answer : Bool) → inside ≡ old → answer ≡ is_some inside → answer ≡ false
+    → StandsFor new head [] false 0 → KeepsCount (told_by_gateway old) (told_by_gateway (Some new))
 begun_keeps head inside old new answer view is e stands =
-    subst (λ (g : Option Writing). KeepsCount (told_by_gateway g) (told_by_gateway (Some new))) (sym (sym view ∙ none_so_far inside answer is e)) (record {
-      count = taken_none head new.gate stands;
+    subst (λ (g : Option Gated). KeepsCount (told_by_gateway g) (told_by_gateway (Some new))) (sym (sym view ∙ none_so_far inside answer is e)) (record {
+      count = taken_none head new stands;
       wants = refl;
       ended = sym stands.ended_is;
     })
 
-begun_open : (releases : RecordHead → List Received → List Release) (head : RecordHead) (new : Writing) → StandsFor new.gate head [] false 0 → (later : List Frame) (more : List ℕ)
+begun_open : (releases : RecordHead → List Received → List Release) (head : RecordHead) (new : Gated) → StandsFor new head [] false 0 → (later : List Frame) (more : List ℕ)
     → IsToldBy releases (Some new) head later more → IsToldBy releases None head later more
 begun_open releases head new stands later more p =
-    let q : IsToldOpen releases new.gate head later more = subst (λ (b : Bool). IsToldAt b releases new.gate head later more) (sym stands.ended_is) p in
+    let q : IsToldOpen releases new head later more = subst (λ (b : Bool). IsToldAt b releases new head later more) (sym stands.ended_is) p in
     q [] 0 stands
 
-pub begun_on : (reader : Reading) (lent head : RecordHead) (inside old : Option Writing) (new : Writing) (answer : Bool) → inside ≡ old → answer ≡ is_some inside → answer ≡ false
+pub begun_on : (reader : Reading) (lent head : RecordHead) (inside old : Option Gated) (new : Gated) (answer : Bool) → inside ≡ old → answer ≡ is_some inside → answer ≡ false
     → (reader.started ≡ true) × (lent ≡ reader.head) → (record_reads reader).head ≡ Some head
-    → StandsFor new.gate lent [] false 0 → GoesOn head [] [] (told_by_gateway old) (told_by_gateway (Some new))
+    → StandsFor new lent [] false 0 → GoesOn head [] [] (told_by_gateway old) (told_by_gateway (Some new))
 begun_on reader lent head inside old new answer view is e has known stands =
     let same : lent ≡ head = has.1 ∙ head_is reader.started reader.head head has.0 known in
-    let at : StandsFor new.gate head [] false 0 = subst (λ (h : RecordHead). StandsFor new.gate h [] false 0) same stands in
-    subst (λ (g : Option Writing). GoesOn head [] [] (told_by_gateway g) (told_by_gateway (Some new))) (sym (sym view ∙ none_so_far inside answer is e)) (record {
+    let at : StandsFor new head [] false 0 = subst (λ (h : RecordHead). StandsFor new h [] false 0) same stands in
+    subst (λ (g : Option Gated). GoesOn head [] [] (told_by_gateway g) (told_by_gateway (Some new))) (sym (sym view ∙ none_so_far inside answer is e)) (record {
       part = begun_open part_of head new at;
       out = begun_open out_of head new at;
     })
@@ -199,9 +150,9 @@ frame_at releases head stamp port datagram old new takes is now later more p =
     subst (λ (b : Bool). IsToldAt b releases old head (record { stamp = stamp; port = port; datagram = datagram } ∷ later) more) (sym is)
     (frame_open releases head stamp port datagram old new takes later more (subst (λ (b : Bool). IsToldAt b releases new head later more) now p))
 
-pub frame_on : (reader : Reading) (head : RecordHead) (frame : Frame) (stamp : TimeStamp) (port : ℕ) (datagram waiting : List ℕ) (old new : Writing)
+pub frame_on : (reader : Reading) (head : RecordHead) (frame : Frame) (stamp : TimeStamp) (port : ℕ) (datagram waiting : List ℕ) (old new : Gated)
     → (reader.whole ≡ true) × (held_frame reader ≡ record { stamp = stamp; port = port; datagram = datagram }) → (record_reads reader).frame ≡ Some frame
-    → TakesFrame stamp port datagram old.gate new.gate → is_ended old.gate.stage ≡ false → is_ended new.gate.stage ≡ false
+    → TakesFrame stamp port datagram old new → is_ended old.stage ≡ false → is_ended new.stage ≡ false
     → Puts head (frame ∷ []) waiting waiting (told_by_gateway (Some old)) (told_by_gateway (Some new))
 frame_on reader head frame stamp port datagram waiting old new has whole takes is now =
     let same : record { stamp = stamp; port = port; datagram = datagram } ≡ frame = sym has.1 ∙ frame_is reader.whole (held_frame reader) frame has.0 whole in
@@ -209,8 +160,8 @@ frame_on reader head frame stamp port datagram waiting old new has whole takes i
       text = [];
       put = sym (append-nil waiting);
       goes = record {
-        part = frame_at part_of head stamp port datagram old.gate new.gate takes is now;
-        out = frame_at out_of head stamp port datagram old.gate new.gate takes is now;
+        part = frame_at part_of head stamp port datagram old new takes is now;
+        out = frame_at out_of head stamp port datagram old new takes is now;
       };
     })
 
@@ -228,74 +179,70 @@ pub is_at_rest : (gate : Gated) → records_owed gate ≡ 0 → is_ended gate.st
 is_at_rest gate e f = let r = rest_at gate.stage gate.telling _ e f in record { stage = r.0; telling = r.1 }
 
 -- the gateway of a teller whose header came
-module _ (inside old : Option Writing) (gateway : Writing) (view : inside ≡ old) (is : inside ≡ Some gateway) where
+module _ (inside old : Option Gated) (gateway : Gated) (view : inside ≡ old) (is : inside ≡ Some gateway) where
   is_old : old ≡ Some gateway
   is_old = sym view ∙ is
 
-  pub has_history : HasHistory inside → IsOfHistory gateway.gate
-  has_history h = subst HasHistory is h
+  pub still_over : (ended : Bool) → is_over old ≡ ended → is_ended gateway.stage ≡ ended
+  still_over ended e = subst (λ (g : Option Gated). is_over g ≡ ended) is_old e
 
-  pub still_over : (ended : Bool) → is_over old ≡ ended → is_ended gateway.gate.stage ≡ ended
-  still_over ended e = subst (λ (g : Option Writing). is_over g ≡ ended) is_old e
-
-  pub may_take : owed_by old ≡ 0 → is_over old ≡ false → IsAtRest gateway.gate
-  may_take owed e = is_at_rest gateway.gate (subst (λ (g : Option Writing). owed_by g ≡ 0) is_old owed) (still_over false e)
+  pub may_take : owed_by old ≡ 0 → is_over old ≡ false → IsAtRest gateway
+  may_take owed e = is_at_rest gateway (subst (λ (g : Option Gated). owed_by g ≡ 0) is_old owed) (still_over false e)
 
   pub may_count : (reader : Reading) (stamp : TimeStamp) (port : ℕ) (datagram : List ℕ)
       → (reader.whole ≡ true) × (held_frame reader ≡ record { stamp = stamp; port = port; datagram = datagram })
       → ((frame : Frame) → (record_reads reader).frame ≡ Some frame → taken_by old + 1 + length frame.datagram < 2 ^ 63)
-      → gateway.gate.taken + 1 + length datagram < 2 ^ 63
+      → gateway.taken + 1 + length datagram < 2 ^ 63
   may_count reader stamp port datagram has count =
       let whole : (if reader.whole then Some (held_frame reader) else None) ≡ Some (held_frame reader) =
       ap (λ (b : Bool). if b then Some (held_frame reader) else None) has.0 in
       let size : length (held_frame reader).datagram ≡ length datagram = ap (λ (f : Frame). length f.datagram) has.1 in
-      let taken : taken_by old ≡ gateway.gate.taken = ap taken_by is_old in
+      let taken : taken_by old ≡ gateway.taken = ap taken_by is_old in
       omega (arith, count (held_frame reader) whole, size, taken)
 
-  pub one_counted : (reader : Reading) (frame : Frame) (stamp : TimeStamp) (port : ℕ) (datagram : List ℕ) (new : Writing)
+  pub one_counted : (reader : Reading) (frame : Frame) (stamp : TimeStamp) (port : ℕ) (datagram : List ℕ) (new : Gated)
       → (reader.whole ≡ true) × (held_frame reader ≡ record { stamp = stamp; port = port; datagram = datagram }) → (record_reads reader).frame ≡ Some frame
-      → TakesFrame stamp port datagram gateway.gate new.gate → new.gate.taken ≡ gateway.gate.taken + 1 + length datagram → is_over old ≡ false → HasHistory inside
+      → new.taken ≡ gateway.taken + 1 + length datagram → is_over old ≡ false → is_ended new.stage ≡ false
       → CountsFrame (length frame.datagram) (told_by_gateway old) (told_by_gateway (Some new))
-  one_counted reader frame stamp port datagram new has whole takes taken e h =
+  one_counted reader frame stamp port datagram new has whole taken e now =
       let size : length frame.datagram ≡ length datagram =
       ap (λ (f : Frame). length f.datagram) (sym (frame_is reader.whole (held_frame reader) frame has.0 whole) ∙ has.1) in
-      let before : taken_by old ≡ gateway.gate.taken = ap taken_by is_old in record {
+      let before : taken_by old ≡ gateway.taken = ap taken_by is_old in record {
         count = omega (arith, taken, size, before);
         wants = refl;
-        ended = frame_open_still stamp port datagram gateway.gate new.gate takes (still_over false e) (has_history h) ∙ sym e;
+        ended = now ∙ sym e;
       }
 
-  pub one_told : (reader : Reading) (head : RecordHead) (frame : Frame) (stamp : TimeStamp) (port : ℕ) (datagram waiting : List ℕ) (new : Writing)
+  pub one_told : (reader : Reading) (head : RecordHead) (frame : Frame) (stamp : TimeStamp) (port : ℕ) (datagram waiting : List ℕ) (new : Gated)
       → (reader.whole ≡ true) × (held_frame reader ≡ record { stamp = stamp; port = port; datagram = datagram }) → (record_reads reader).frame ≡ Some frame
-      → TakesFrame stamp port datagram gateway.gate new.gate → is_over old ≡ false → HasHistory inside
+      → TakesFrame stamp port datagram gateway new → is_over old ≡ false → is_ended new.stage ≡ false
       → Puts head (frame ∷ []) waiting waiting (told_by_gateway old) (told_by_gateway (Some new))
-  one_told reader head frame stamp port datagram waiting new has whole takes e h =
-      let now = still_over false e in
-      subst (λ (g : Option Writing). Puts head (frame ∷ []) waiting waiting (told_by_gateway g) (told_by_gateway (Some new))) (sym is_old)
-      (frame_on reader head frame stamp port datagram waiting gateway new has whole takes now (frame_open_still stamp port datagram gateway.gate new.gate takes now (has_history h)))
+  one_told reader head frame stamp port datagram waiting new has whole takes e now =
+      subst (λ (g : Option Gated). Puts head (frame ∷ []) waiting waiting (told_by_gateway g) (told_by_gateway (Some new))) (sym is_old)
+      (frame_on reader head frame stamp port datagram waiting gateway new has whole takes (still_over false e) now)
 
 -- ---- what is owed
 
-next_at : (releases : RecordHead → List Received → List Release) (head : RecordHead) → Keeps head releases → (old new : Writing) → GivesNext old new → (ended : Bool) (later : List Frame) (more : List ℕ)
-    → IsToldAt ended releases new.gate head later more → IsToldAt ended releases old.gate head later (new.written ++ more)
-next_at releases head keeps old new gives false later more p = λ received given stands.
+next_at : (releases : RecordHead → List Received → List Release) (head : RecordHead) → Keeps head releases → (old : Gated) (bytes : List ℕ) (new : Gated) → AreBytes bytes → GivesNext old bytes new
+    → (ended : Bool) (later : List Frame) (more : List ℕ) → IsToldAt ended releases new head later more → IsToldAt ended releases old head later (bytes ++ more)
+next_at releases head keeps old bytes new fit gives false later more p = λ received given stands.
     let g = gives head received false given stands in
     let q = p received (given + 1) g.1 in (
       q.0,
-      (q.1.0, first_given (releases head (received ++ q.0)) given g.0.release new.written more (keeps received q.0 given g.0.release g.0.next) g.0.written q.1.1),
+      (q.1.0, first_given (releases head (received ++ q.0)) given g.0.release bytes more (keeps received q.0 given g.0.release g.0.next) fit g.0.written q.1.1),
     )
-next_at releases head keeps old new gives true later more p = λ none received given stands.
+next_at releases head keeps old bytes new fit gives true later more p = λ none received given stands.
     let g = gives head received true given stands in
-    first_given (out_of head received) given g.0.release new.written more g.0.next g.0.written (p none received (given + 1) g.1)
+    first_given (out_of head received) given g.0.release bytes more g.0.next fit g.0.written (p none received (given + 1) g.1)
 
-pub next_on : (head : RecordHead) (waiting waiting' : List ℕ) (old new : Writing) → waiting' ≡ waiting ++ new.written → GivesNext old new → is_ended new.gate.stage ≡ is_ended old.gate.stage
-    → Puts head [] waiting waiting' (told_by_gateway (Some old)) (told_by_gateway (Some new))
-next_on head waiting waiting' old new put gives same = record {
-  text = new.written;
+pub next_on : (head : RecordHead) (waiting waiting' : List ℕ) (old : Gated) (bytes : List ℕ) (new : Gated) → waiting' ≡ waiting ++ bytes → AreBytes bytes → GivesNext old bytes new
+    → is_ended new.stage ≡ is_ended old.stage → Puts head [] waiting waiting' (told_by_gateway (Some old)) (told_by_gateway (Some new))
+next_on head waiting waiting' old bytes new put fit gives same = record {
+  text = bytes;
   put = put;
   goes = record {
-    part = λ later more p. next_at part_of head (part_keeps head) old new gives (is_ended old.gate.stage) later more (subst (λ (b : Bool). IsToldAt b part_of new.gate head later more) same p);
-    out = λ later more p. next_at out_of head (out_keeps head) old new gives (is_ended old.gate.stage) later more (subst (λ (b : Bool). IsToldAt b out_of new.gate head later more) same p);
+    part = λ later more p. next_at part_of head (part_keeps head) old bytes new fit gives (is_ended old.stage) later more (subst (λ (b : Bool). IsToldAt b part_of new head later more) same p);
+    out = λ later more p. next_at out_of head (out_keeps head) old bytes new fit gives (is_ended old.stage) later more (subst (λ (b : Bool). IsToldAt b out_of new head later more) same p);
   };
 }
 
@@ -304,14 +251,14 @@ none_at : (releases : RecordHead → List Received → List Release) (head : Rec
 none_at releases head old new gives false later more p = λ received given stands. p received given (gives head received false given stands).1
 none_at releases head old new gives true later more p = λ none received given stands. p none received given (gives head received true given stands).1
 
-pub none_on : (head : RecordHead) (waiting : List ℕ) (old new : Writing) → GivesNone old.gate new.gate → is_ended new.gate.stage ≡ is_ended old.gate.stage
+pub none_on : (head : RecordHead) (waiting : List ℕ) (old new : Gated) → GivesNone old new → is_ended new.stage ≡ is_ended old.stage
     → Puts head [] waiting waiting (told_by_gateway (Some old)) (told_by_gateway (Some new))
 none_on head waiting old new gives same = record {
   text = [];
   put = sym (append-nil waiting);
   goes = record {
-    part = λ later more p. none_at part_of head old.gate new.gate gives (is_ended old.gate.stage) later more (subst (λ (b : Bool). IsToldAt b part_of new.gate head later more) same p);
-    out = λ later more p. none_at out_of head old.gate new.gate gives (is_ended old.gate.stage) later more (subst (λ (b : Bool). IsToldAt b out_of new.gate head later more) same p);
+    part = λ later more p. none_at part_of head old new gives (is_ended old.stage) later more (subst (λ (b : Bool). IsToldAt b part_of new head later more) same p);
+    out = λ later more p. none_at out_of head old new gives (is_ended old.stage) later more (subst (λ (b : Bool). IsToldAt b out_of new head later more) same p);
   };
 }
 
@@ -351,24 +298,24 @@ settled_out : (gate : Gated) → IsSettledAt gate → (head : RecordHead) (ended
 settled_out gate settled head false e = absurd (cc)
 settled_out gate settled head true e = λ none received given stands. subst (λ rs. AreRecordsOf rs []) (sym (none_left gate head received true given settled stands)) refl
 
-pub none_owed : (gateway : Writing) → IsSettledAt gateway.gate → IsSettled (told_by_gateway (Some gateway))
+pub none_owed : (gateway : Gated) → IsSettledAt gateway → IsSettled (told_by_gateway (Some gateway))
 none_owed gateway settled = record {
   started = refl;
-  owed = owed_none gateway.gate.stage gateway.gate.telling (may_be_told gateway.gate) settled.telling settled.stage;
-  part = λ head. settled_part gateway.gate settled head (is_ended gateway.gate.stage);
-  out = λ ended head. settled_out gateway.gate settled head (is_ended gateway.gate.stage) ended;
+  owed = owed_none gateway.stage gateway.telling (may_be_told gateway) settled.telling settled.stage;
+  part = λ head. settled_part gateway settled head (is_ended gateway.stage);
+  out = λ ended head. settled_out gateway settled head (is_ended gateway.stage) ended;
 }
 
 -- ---- the end
 
-pub end_on : (head : RecordHead) (waiting : List ℕ) (old new : Writing) → TakesEnd old.gate new.gate → is_ended old.gate.stage ≡ false → is_ended new.gate.stage ≡ true
+pub end_on : (head : RecordHead) (waiting : List ℕ) (old new : Gated) → TakesEnd old new → is_ended old.stage ≡ false → is_ended new.stage ≡ true
     → PutsEnd head waiting waiting (told_by_gateway (Some old)) (told_by_gateway (Some new))
 end_on head waiting old new takes is now = record {
   text = [];
   put = sym (append-nil waiting);
   out = λ more p.
-      let q = subst (λ (b : Bool). IsToldAt b out_of new.gate head [] more) now p in
-      subst (λ (b : Bool). IsToldAt b out_of old.gate head [] more) (sym is) (λ received given stands. (
+      let q = subst (λ (b : Bool). IsToldAt b out_of new head [] more) now p in
+      subst (λ (b : Bool). IsToldAt b out_of old head [] more) (sym is) (λ received given stands. (
         [],
         (
           record { frames_are = refl; contents = tt },
@@ -380,41 +327,41 @@ end_on head waiting old new takes is now = record {
 
 -- ---- a release that is owed, and the end, of a teller whose header came
 
-module _ (inside old : Option Writing) (gateway : Writing) (view : inside ≡ old) (is : inside ≡ Some gateway) where
+module _ (inside old : Option Gated) (gateway : Gated) (view : inside ≡ old) (is : inside ≡ Some gateway) where
   was : old ≡ Some gateway
   was = sym view ∙ is
 
-  pub one_written : (head : RecordHead) (waiting waiting' : List ℕ) (new : Writing) → waiting' ≡ waiting ++ new.written → GivesNext gateway new
-      → is_ended new.gate.stage ≡ is_ended gateway.gate.stage → Puts head [] waiting waiting' (told_by_gateway old) (told_by_gateway (Some new))
-  one_written head waiting waiting' new put gives same =
-      subst (λ (g : Option Writing). Puts head [] waiting waiting' (told_by_gateway g) (told_by_gateway (Some new))) (sym was) (next_on head waiting waiting' gateway new put gives same)
+  pub one_written : (head : RecordHead) (waiting waiting' bytes : List ℕ) (new : Gated) → waiting' ≡ waiting ++ bytes → AreBytes bytes → GivesNext gateway bytes new
+      → is_ended new.stage ≡ is_ended gateway.stage → Puts head [] waiting waiting' (told_by_gateway old) (told_by_gateway (Some new))
+  one_written head waiting waiting' bytes new put fit gives same =
+      subst (λ (g : Option Gated). Puts head [] waiting waiting' (told_by_gateway g) (told_by_gateway (Some new))) (sym was) (next_on head waiting waiting' gateway bytes new put fit gives same)
 
-  pub none_written : (head : RecordHead) (waiting : List ℕ) (new : Writing) → GivesNone gateway.gate new.gate
-      → is_ended new.gate.stage ≡ is_ended gateway.gate.stage → Puts head [] waiting waiting (told_by_gateway old) (told_by_gateway (Some new))
+  pub none_written : (head : RecordHead) (waiting : List ℕ) (new : Gated) → GivesNone gateway new
+      → is_ended new.stage ≡ is_ended gateway.stage → Puts head [] waiting waiting (told_by_gateway old) (told_by_gateway (Some new))
   none_written head waiting new gives same =
-      subst (λ (g : Option Writing). Puts head [] waiting waiting (told_by_gateway g) (told_by_gateway (Some new))) (sym was) (none_on head waiting gateway new gives same)
+      subst (λ (g : Option Gated). Puts head [] waiting waiting (told_by_gateway g) (told_by_gateway (Some new))) (sym was) (none_on head waiting gateway new gives same)
 
-  pub count_kept : (new : Writing) → new.gate.taken ≡ gateway.gate.taken → is_ended new.gate.stage ≡ is_ended gateway.gate.stage
+  pub count_kept : (new : Gated) → new.taken ≡ gateway.taken → is_ended new.stage ≡ is_ended gateway.stage
       → KeepsCount (told_by_gateway old) (told_by_gateway (Some new))
-  count_kept new taken same = subst (λ (g : Option Writing). KeepsCount (told_by_gateway g) (told_by_gateway (Some new))) (sym was) (record { count = taken; wants = refl; ended = same })
+  count_kept new taken same = subst (λ (g : Option Gated). KeepsCount (told_by_gateway g) (told_by_gateway (Some new))) (sym was) (record { count = taken; wants = refl; ended = same })
 
-  pub less_owed : (new : Writing) → records_owed new.gate < records_owed gateway.gate → records_owed new.gate < owed_by old
-  less_owed new less = subst (λ (g : Option Writing). records_owed new.gate < owed_by g) (sym was) less
+  pub less_owed : (new : Gated) → records_owed new < records_owed gateway → records_owed new < owed_by old
+  less_owed new less = subst (λ (g : Option Gated). records_owed new < owed_by g) (sym was) less
 
-  pub end_told : (head : RecordHead) (waiting : List ℕ) (new : Writing) → TakesEnd gateway.gate new.gate → is_over old ≡ false → is_ended new.gate.stage ≡ true
+  pub end_told : (head : RecordHead) (waiting : List ℕ) (new : Gated) → TakesEnd gateway new → is_over old ≡ false → is_ended new.stage ≡ true
       → PutsEnd head waiting waiting (told_by_gateway old) (told_by_gateway (Some new))
   end_told head waiting new takes e now =
-      subst (λ (g : Option Writing). PutsEnd head waiting waiting (told_by_gateway g) (told_by_gateway (Some new))) (sym was)
-      (end_on head waiting gateway new takes (subst (λ (g : Option Writing). is_over g ≡ false) was e) now)
+      subst (λ (g : Option Gated). PutsEnd head waiting waiting (told_by_gateway g) (told_by_gateway (Some new))) (sym was)
+      (end_on head waiting gateway new takes (subst (λ (g : Option Gated). is_over g ≡ false) was e) now)
 
 -- ---- the run
 
 -- before the header all of the record is told
-pub all_told : (most : ℕ) (status : Status) (moves : Moves) (gateway : Option Writing) → gateway ≡ None
+pub all_told : (most : ℕ) (status : Status) (moves : Moves) (gateway : Option Gated) → gateway ≡ None
     → IsOutcome status (record { most = most; grammar = record_grammar; tells = told_by_gateway gateway }) moves → IsOutcome status (replay_of most) moves
 all_told most status moves gateway first =
     outcome_retold most record_grammar (told_by_gateway gateway) replay_tells (record {
-      part = λ head frames text p. subst (λ (g : Option Writing). IsToldBy part_of g head frames text) first p;
-      out = λ head frames text p. subst (λ (g : Option Writing). IsToldBy out_of g head frames text) first p;
+      part = λ head frames text p. subst (λ (g : Option Gated). IsToldBy part_of g head frames text) first p;
+      out = λ head frames text p. subst (λ (g : Option Gated). IsToldBy out_of g head frames text) first p;
       wants = refl;
     }) status moves

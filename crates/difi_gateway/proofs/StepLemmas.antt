@@ -11,7 +11,7 @@ use Rattle.sample_binder.specs.declared.out.Out.{Out}
 use Rattle.sample_binder.specs.declared.out.Out.TheVariants as out
 use Rattle.difi_gateway.specs.Calls.{calls}
 use Rattle.difi_gateway.specs.Contents.{Received}
-use Rattle.difi_gateway.specs.State.{Gated, StandsFor, IsWriting, IsWithin, IsAtRest, IsIdle, IsBinder, calls_with, is_drawn, is_ended}
+use Rattle.difi_gateway.specs.State.{Gated, StandsFor, IsSound, IsWithin, IsAtRest, IsIdle, IsBinder, calls_with, is_drawn, is_ended}
 use Rattle.difi_gateway.specs.Drawing.{IsDrawn, IsGoneOn, IsEndTold, IsUntold, MayBeTold, MayGoOn, drawn_from}
 use Rattle.difi_gateway.specs.Writing.{IsCopyWritten, IsEndWritten, number_of_copies}
 use Rattle.difi_gateway.specs.Progress.{IsMoved, records_owed}
@@ -24,7 +24,7 @@ use Rattle.difi_gateway.proofs.FitLemmas.{calls_not_told}
 use Rattle.difi_gateway.proofs.ReadyLemmas.{route_by_place}
 use Rattle.difi_gateway.proofs.EndSteps.{end_kept, between_waiting}
 use Rattle.difi_gateway.proofs.MoveLemmas.{drew_nothing}
-use Rattle.difi_gateway.proofs.AdvanceLemmas.{IsSameWay, moved_stands, moved_same, writing_kept, counts_fit, copy_given, end_given}
+use Rattle.difi_gateway.proofs.AdvanceLemmas.{IsSameWay, moved_stands, moved_same, sound_kept, counts_fit, copy_given, end_given}
 use Rattle.difi_gateway.proofs.NearLemmas.{moved_more}
 
 -- ---- a copy
@@ -53,34 +53,31 @@ copy_same bytes old new w = elim (cases_lt (old.place + 1) (number_of_copies old
       }
 ]
 
-module _ (old new : Gated) (size room : ℕ) (w : IsWriting old size room) where
-  pub copy_writes : (bytes : List ℕ) (size' : ℕ) → IsCopyWritten bytes old new → size' ≤ room → IsWriting new size' room
-  copy_writes bytes size' c fits =
+module _ (old new : Gated) (w : IsSound old) where
+  pub copy_sound : (bytes : List ℕ) → IsCopyWritten bytes old new → IsSound new
+  copy_sound bytes c =
       let same = copy_same bytes old new c in
       let given = copy_given old new w.head w.received (is_ended old.stage) w.given w.stands bytes c in
-      writing_kept old new size room size' (w.given + 1) w same.way
+      sound_kept old new (w.given + 1) w same.way
       (subst (λ b. StandsFor new w.head w.received b (w.given + 1)) (sym same.way.ended) given.1)
       (subst (λ s. IsWithin s (length new.binders)) (sym same.stage) (subst (λ (bs : List Bound). IsWithin old.stage (length bs)) (sym same.binders) w.drawing))
-      fits
 
   -- ---- the counts
 
-  end_same : (bytes : List ℕ) (index : ℕ) → old.stage ≡ stages.Ending index → IsEndWritten bytes old new → IsSameWay old new
+  pub end_same : (bytes : List ℕ) (index : ℕ) → old.stage ≡ stages.Ending index → IsEndWritten bytes old new → IsSameWay old new
   end_same bytes index ending e = record {
     capacity = ap (λ (g : Gated). g.capacity) e.after;
     taken = ap (λ (g : Gated). g.taken) e.after;
     ended = ap (λ (g : Gated). is_ended g.stage) e.after ∙ sym (ap is_ended ending);
   }
 
-  pub end_writes : (bytes : List ℕ) (index size' : ℕ) → old.stage ≡ stages.Ending index → length old.binders ≤ index → old.telling ≡ telling.Nothing → IsEndWritten bytes old new
-      → size' ≤ room → IsWriting new size' room
-  end_writes bytes index size' ending behind quiet e fits =
+  pub end_sound : (bytes : List ℕ) (index : ℕ) → old.stage ≡ stages.Ending index → length old.binders ≤ index → old.telling ≡ telling.Nothing → IsEndWritten bytes old new → IsSound new
+  end_sound bytes index ending behind quiet e =
       let same = end_same bytes index ending e in
       let given = end_given old new w.head w.received (is_ended old.stage) w.given w.stands bytes index ending behind quiet e in
-      writing_kept old new size room size' (w.given + 1) w same
+      sound_kept old new (w.given + 1) w same
       (subst (λ b. StandsFor new w.head w.received b (w.given + 1)) (sym same.ended) given.1)
       (subst (λ s. IsWithin s (length new.binders)) (sym (ap (λ (g : Gated). g.stage) e.after)) tt)
-      fits
 
   -- ---- a move
 
@@ -118,11 +115,10 @@ module _ (old new : Gated) (size room : ℕ) (w : IsWriting old size room) where
   moved_now : (index : ℕ) → old.telling ≡ telling.Nothing → is_drawn old.stage index → IsMoved index old new → StandsFor new w.head w.received (is_ended old.stage) w.given
   moved_now index quiet d moved = moved_stands old new w.head w.received (is_ended old.stage) w.given index w.stands quiet d moved
 
-  pub move_writes : (index : ℕ) → old.telling ≡ telling.Nothing → is_drawn old.stage index → IsMoved index old new → IsWriting new size room
-  move_writes index quiet d moved =
+  pub move_sound : (index : ℕ) → old.telling ≡ telling.Nothing → is_drawn old.stage index → IsMoved index old new → IsSound new
+  move_sound index quiet d moved =
       let same = moved_same index old new moved in
-      writing_kept old new size room size w.given w same (subst (λ b. StandsFor new w.head w.received b w.given) (sym same.ended) (moved_now index quiet d moved))
-      (moved_within index moved) w.within
+      sound_kept old new w.given w same (subst (λ b. StandsFor new w.head w.received b w.given) (sym same.ended) (moved_now index quiet d moved)) (moved_within index moved)
 
   pub move_more : (index : ℕ) → old.telling ≡ telling.Nothing → is_drawn old.stage index → IsMoved index old new → records_owed new ≤ records_owed old
   move_more index quiet d moved =
@@ -130,8 +126,8 @@ module _ (old new : Gated) (size room : ℕ) (w : IsWriting old size room) where
 
   -- ---- the end is told
 
-  pub told_writes : IsAtRest old → IsEndTold 0 old new → IsWriting new size room
-  told_writes rest told =
+  pub told_sound : IsAtRest old → IsEndTold 0 old new → IsSound new
+  told_sound rest told =
       let st : StandsFor old w.head w.received false w.given = subst (λ b. StandsFor old w.head w.received b w.given) (ap is_ended rest.stage) w.stands in
       let now = end_kept old w.head w.received w.given 0 (between_waiting old w.head w.received w.given st rest.stage rest.telling) new told in
       record {
@@ -142,8 +138,6 @@ module _ (old new : Gated) (size room : ℕ) (w : IsWriting old size room) where
         buffers = omega (arith, w.buffers, st.buffers.all, now.buffers.all, same_capacity told);
         small = omega (arith, w.small, same_taken told);
         drawing = ending_within told;
-        longest = w.longest;
-        within = w.within;
       } where
         same_capacity : IsEndTold 0 old new → new.capacity ≡ old.capacity
         same_capacity (inl at) = ap (λ (g : Gated). g.capacity) at.after

@@ -1,10 +1,11 @@
 -- A frame as a whole: what the gateway stands for afterwards, and what is true of it then.
-use Rattle.std.proofs.Common.{◌≡◌, inl, inr, ℕ, ◌+◌, ◌*◌, ◌<◌, ◌≤◌, ◌^◌, false, List, [], ◌∷◌, ◌++◌, length, slice_set, Option, Some, None, refl, sym, ap, ◌∙◌, subst, arith}
+use Rattle.std.proofs.Common.{◌≡◌, inl, inr, ℕ, ◌==◌, ◌+◌, ◌*◌, ◌<◌, ◌≤◌, ◌^◌, false, List, [], ◌∷◌, ◌++◌, length, slice_set, Option, Some, None, refl, sym, ap, ◌∙◌, subst, arith}
 use Rattle.vrt_words.specs.Words.{AreBytes}
 use Rattle.vrt_words.specs.Begins.{IsDatagram, IsRefused}
 use Rattle.vrt_header.specs.Profile.{PacketProfile}
 use Rattle.difi_packet.specs.Packet.{PacketValue, DataValue, ContextValue, VersionValue, ControlValue, CancelValue, AckValue, IsPacket}
 use Rattle.replay_form.specs.FrameFields.{Frame}
+use Rattle.replay_form.specs.HeadValues.{AreHeadValues}
 use Rattle.replay_form.specs.declared.record_head.RecordHead.{RecordHead}
 use Rattle.std.proofs.lemmas.List.{length-set}
 use Rattle.std.proofs.lemmas.Option.{slice_get_within}
@@ -18,9 +19,11 @@ use Rattle.release_form.specs.declared.refusal.Refusal.TheVariants.{TooLarge, Ma
 use Rattle.difi_gateway.specs.Contents.{Content, Larger, NoPacket, Holds, Received, IsContent}
 use Rattle.difi_gateway.specs.Judged.{IsNoPacket}
 use Rattle.difi_gateway.specs.Calls.{calls_by}
+use Rattle.difi_gateway.specs.Isolation.{IsApart}
 use Rattle.difi_gateway.specs.Told.{RefusedItem, told_by}
-use Rattle.difi_gateway.specs.State.{Gated, StandsFor, IsAtRest, IsWriting, IsWithin, is_ended}
-use Rattle.difi_gateway.specs.Steps.{refused, refused_for, called_with, with_back, MayTake, IsTaken, IsGivenAt}
+use Rattle.difi_gateway.specs.State.{Gated, StandsFor, IsAtRest, IsSound, IsWithin, is_ended}
+use Rattle.difi_gateway.specs.Steps.{refused, refused_for, called_with, with_back, MayTake, IsTaken, IsGivenAt, IsFrameTaken}
+use Rattle.difi_gateway.proofs.OneStream.{own_part_releases, own_releases}
 use Rattle.difi_gateway.proofs.FrameSteps.{stands_next}
 use Rattle.difi_gateway.proofs.ReadyLemmas.{may_take}
 use Rattle.difi_gateway.proofs.FrameCases.{uncalled_next}
@@ -75,8 +78,8 @@ module _ (gate new : Gated) (rest : IsAtRest gate) (frame : Frame) (fit : AreByt
   none_more Answer detail why e head received given st = absurd why
 
   -- what is true of every gateway stays so
-  pub still_writing : (size room : ℕ) → IsWriting gate size room → IsOneMore gate new frame → new.capacity ≡ gate.capacity → new.taken < 2 ^ 63 → IsWithin new.stage (length new.binders) → IsWriting new size room
-  still_writing size room w more capacity few within =
+  pub still_sound : IsSound gate → IsOneMore gate new frame → new.capacity ≡ gate.capacity → new.taken < 2 ^ 63 → IsWithin new.stage (length new.binders) → IsSound new
+  still_sound w more capacity few within =
       let st : StandsFor gate w.head w.received false w.given = subst (λ b. StandsFor gate w.head w.received b w.given) (ap is_ended rest.stage) w.stands in
       let next = more w.head w.received w.given st in
       let now = next.2 in
@@ -88,8 +91,6 @@ module _ (gate new : Gated) (rest : IsAtRest gate) (frame : Frame) (fit : AreByt
         buffers = omega (arith, w.buffers, st.buffers.all, now.buffers.all, capacity);
         small = few;
         drawing = within;
-        longest = w.longest;
-        within = w.within;
       }
 
 -- ---- the memory for the buffers stays
@@ -168,6 +169,48 @@ taken_keeps (ControlValue packet) port bytes old new e = ap (λ (g : Gated). g.c
 taken_keeps (CancelValue packet) port bytes old new e = ap (λ (g : Gated). g.capacity) e
 taken_keeps (AckValue packet) port bytes old new e = ap (λ (g : Gated). g.capacity) e
 
-pub writing_ready : (gate : Gated) (size room bytes : ℕ) → IsWriting gate size room → IsAtRest gate → gate.taken + 1 + bytes < 2 ^ 63 → MayTake gate bytes
-writing_ready gate size room bytes w rest few =
+pub sound_ready : (gate : Gated) (bytes : ℕ) → IsSound gate → IsAtRest gate → gate.taken + 1 + bytes < 2 ^ 63 → MayTake gate bytes
+sound_ready gate bytes w rest few =
     may_take gate w.head w.received w.given (subst (λ b. StandsFor gate w.head w.received b w.given) (ap is_ended rest.stage) w.stands) rest bytes few
+
+-- ---- a frame, whatever it is
+
+-- it is one more, and is counted
+pub record IsFrameIn (frame : Frame) (old new : Gated) : Type 0 where
+  pub more : IsOneMore old new frame
+  pub taken : new.taken ≡ old.taken + 1 + length frame.datagram
+  pub sound : IsSound new
+
+pub frame_in : (old new : Gated) (frame : Frame) → IsSound old → IsAtRest old → AreBytes frame.datagram → old.taken + 1 + length frame.datagram < 2 ^ 63
+    → IsFrameTaken frame.port frame.datagram old new → IsFrameIn frame old new
+frame_in old new frame w rest fit few (inl p) =
+    let more = packet_more old new rest frame fit p.value p.fits p.packet p.taken in
+    let taken = bytes_counted p.value frame.port frame.datagram old new p.taken in
+    record {
+      more = more;
+      taken = taken;
+      sound = still_sound old new rest frame fit w more (taken_keeps p.value frame.port frame.datagram old new p.taken) (omega (arith, taken, few))
+          (taken_within p.value frame.port frame.datagram old new rest.stage p.taken);
+    }
+frame_in old new frame w rest fit few (inr p) =
+    let more = none_more old new rest frame fit p.refusal p.detail p.none p.after in
+    let taken : new.taken ≡ old.taken + 1 + length frame.datagram = ap (λ (g : Gated). g.taken) p.after in
+    record {
+      more = more;
+      taken = taken;
+      sound = still_sound old new rest frame fit w more (ap (λ (g : Gated). g.capacity) p.after) (omega (arith, taken, few))
+          (refused_within old new frame.port (length frame.datagram) p.refusal p.detail rest.stage p.after);
+    }
+
+-- the end was not told by it
+pub frame_running : (old new : Gated) (frame : Frame) → IsSound old → IsAtRest old → IsOneMore old new frame → is_ended new.stage ≡ false
+frame_running old new frame w rest more =
+    let st : StandsFor old w.head w.received false w.given = subst (λ b. StandsFor old w.head w.received b w.given) (ap is_ended rest.stage) w.stands in
+    sym (more w.head w.received w.given st).2.ended_is
+
+-- each stream's releases are its own
+pub frame_apart : (head : RecordHead) (received : List Received) (stream : ℕ) → AreHeadValues head → IsApart head stream received
+frame_apart head received stream values = record {
+  so_far = own_part_releases head stream received;
+  whole = own_releases head (head.form == 2) stream received values.routes;
+}

@@ -9,6 +9,7 @@ pub mod Drawing
 pub mod Writing
 pub mod Progress
 pub mod Isolation
+pub mod Lent
 pub mod Datagrams
 pub mod Written
 pub mod Opened

@@ -1,18 +1,16 @@
 -- How a gateway goes on from one release record to the next.
-use Rattle.std.specs.Prelude.{◌≡◌, ◌⊎◌, ℕ, ◌+◌, ◌-◌, ◌*◌, ◌≤◌, ◌^◌, Bool, List, length, slice_get, sum, Some}
+use Rattle.std.specs.Prelude.{◌≡◌, ◌≢◌, ◌⊎◌, ℕ, ◌+◌, ◌-◌, ◌*◌, ◌<◌, ◌≤◌, ◌^◌, Bool, List, length, slice_get, sum, Some}
 use Rattle.std.specs.List.{sum_by}
 use Rattle.replay_form.specs.declared.record_head.RecordHead.{RecordHead}
 use Rattle.sample_binder.specs.Binder.{number_kept}
 use Rattle.release_form.specs.Release.{IsRecordOf}
 use Rattle.difi_gateway.specs.Contents.{Received}
 use Rattle.difi_gateway.specs.Releases.{Release}
-use Rattle.difi_gateway.specs.State.{Gated, StandsFor, releases_of, is_ended}
+use Rattle.difi_gateway.specs.State.{Gated, StandsFor, IsSound, is_drawn, releases_of, is_ended}
 use Rattle.difi_gateway.specs.Drawing.{IsDrawn, IsGoneOn}
 use Rattle.difi_gateway.specs.Writing.{number_of_copies}
 use Rattle.difi_gateway.specs.declared.drawn.Drawn.{Drawn}
 use Rattle.difi_gateway.specs.declared.drawn.Drawn.TheVariants as drawn
-use Rattle.difi_gateway.specs.declared.step.Step.{Step}
-use Rattle.difi_gateway.specs.declared.step.Step.TheVariants as steps
 use Rattle.difi_gateway.specs.declared.telling.Telling.{Telling}
 use Rattle.difi_gateway.specs.declared.telling.Telling.TheVariants as telling
 use Rattle.difi_gateway.specs.declared.stage.Stage.{Stage}
@@ -84,11 +82,9 @@ pub record IsSettledAt (gate : Gated) : Type 0 where
   pub telling : gate.telling ≡ telling.Nothing
   pub stage : (gate.stage ≡ stages.Waiting) ⊎ (gate.stage ≡ stages.Over)
 
--- one step: a release was given, or nothing yet, or all was
-abbrev pub IsAdvanced : Step → RecordHead → List Received → Bool → ℕ → List ℕ → Gated → Type 0
-IsAdvanced steps.Written head received ended given bytes new = IsGiven head received ended given bytes × StandsFor new head received ended (given + 1)
-IsAdvanced steps.Moved head received ended given bytes new = StandsFor new head received ended given
-IsAdvanced steps.Settled head received ended given bytes new = IsAllGiven head received ended given × StandsFor new head received ended given
+-- something is told, or the counts alone are left
+abbrev pub IsOwing : Gated → Type 0
+IsOwing gate = (gate.telling ≢ telling.Nothing) ⊎ ((index : ℕ) × (gate.stage ≡ stages.Ending index))
 
 -- a gateway on its way to the next release record
 pub record IsOnWay (start now : Gated) : Type 0 where
@@ -96,3 +92,23 @@ pub record IsOnWay (start now : Gated) : Type 0 where
   pub ended : is_ended now.stage ≡ is_ended start.stage
   pub taken : now.taken ≡ start.taken
   pub owed : records_owed now ≤ records_owed start
+
+-- nothing is told, and the binder of this route can be drawn from
+pub record IsDrawnAt (index : ℕ) (gate : Gated) : Type 0 where
+  pub quiet : gate.telling ≡ telling.Nothing
+  pub drawn : is_drawn gate.stage index
+  pub within : index < length gate.binders
+
+-- these bytes are the record of the next release, which is given then
+pub record IsNextGiven (bytes : List ℕ) (old new : Gated) : Type 0 where
+  pub next : (head : RecordHead) (received : List Received) (ended : Bool) (given : ℕ) → StandsFor old head received ended given
+      → IsGiven head received ended given bytes × StandsFor new head received ended (given + 1)
+  pub ended : is_ended new.stage ≡ is_ended old.stage
+  pub taken : new.taken ≡ old.taken
+  pub less : records_owed new < records_owed old
+  pub sound : IsSound new
+
+-- nothing is owed, and nothing changed
+pub record IsNoneGiven (old new : Gated) : Type 0 where
+  pub settled : IsSettledAt old
+  pub same : new ≡ old

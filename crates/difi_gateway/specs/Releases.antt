@@ -2,6 +2,7 @@
 pub use Rattle.stream_routes.specs.Ports.{ports_of}
 use Rattle.std.specs.Prelude.{◌≡◌, ℕ, List, [], ◌∷◌, ◌++◌, length, map}
 use Rattle.std.specs.List.{flat_map, sum_by}
+use Rattle.vrt_words.specs.Words.{AreBytes}
 use Rattle.vrt_fields.specs.declared.route.Route.{Route}
 use Rattle.replay_form.specs.FrameFields.{Frame}
 use Rattle.replay_form.specs.declared.record_head.RecordHead.{RecordHead}
@@ -75,11 +76,16 @@ out_of head received =
 
 -- ---- their bytes
 
+-- these numbers are bytes, and the record of a release
+pub record IsReleaseRecord (release : Release) (bytes : List ℕ) : Type 0 where
+  pub fit : AreBytes bytes
+  pub is : IsRecordOf release.shown release.payload bytes
+
 -- the bytes are the records of these releases, one after another
 abbrev pub AreRecordsOf : List Release → List ℕ → Type 0
 AreRecordsOf [] bytes = bytes ≡ []
 AreRecordsOf (release ∷ releases) bytes =
-    (first : List ℕ) × ((rest : List ℕ) × (IsRecordOf release.shown release.payload first × (AreRecordsOf releases rest × (bytes ≡ first ++ rest))))
+    (first : List ℕ) × ((rest : List ℕ) × (IsReleaseRecord release first × (AreRecordsOf releases rest × (bytes ≡ first ++ rest))))
 
 -- the bytes of the releases of frames, before the end and with it
 abbrev pub IsPartOf : RecordHead → List Frame → List ℕ → Type 0

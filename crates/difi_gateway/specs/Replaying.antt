@@ -5,7 +5,7 @@ use Rattle.replay_form.specs.declared.record_head.RecordHead.{RecordHead}
 use Rattle.record_run.specs.Tells.{Tells}
 use Rattle.difi_gateway.specs.Contents.{Received, AreReceived}
 use Rattle.difi_gateway.specs.Releases.{Release, AreRecordsOf, part_of, out_of}
-use Rattle.difi_gateway.specs.State.{Gated, Writing, StandsFor, is_ended}
+use Rattle.difi_gateway.specs.State.{Gated, StandsFor, is_ended}
 use Rattle.difi_gateway.specs.Progress.{records_owed}
 
 -- Whatever frames it stands for: of these behind them, the records of the releases that were not given.
@@ -24,27 +24,27 @@ IsToldAt false releases gate head frames text = IsToldOpen releases gate head fr
 IsToldAt true releases gate head frames text = IsToldEnded gate head frames text
 
 -- before the header, all of the record
-abbrev pub IsToldBy : (RecordHead → List Received → List Release) → Option Writing → RecordHead → List Frame → List ℕ → Type 0
+abbrev pub IsToldBy : (RecordHead → List Received → List Release) → Option Gated → RecordHead → List Frame → List ℕ → Type 0
 IsToldBy releases None head frames text = (received : List Received) × (AreReceived head frames received × AreRecordsOf (releases head received) text)
-IsToldBy releases (Some gateway) head frames text = IsToldAt (is_ended gateway.gate.stage) releases gateway.gate head frames text
+IsToldBy releases (Some gateway) head frames text = IsToldAt (is_ended gateway.stage) releases gateway head frames text
 
-abbrev pub taken_by : Option Writing → ℕ
+abbrev pub taken_by : Option Gated → ℕ
 taken_by None = 0
-taken_by (Some gateway) = gateway.gate.taken
+taken_by (Some gateway) = gateway.taken
 
-abbrev pub owed_by : Option Writing → ℕ
+abbrev pub owed_by : Option Gated → ℕ
 owed_by None = 0
-owed_by (Some gateway) = records_owed gateway.gate
+owed_by (Some gateway) = records_owed gateway
 
-abbrev pub is_begun : Option Writing → Bool
+abbrev pub is_begun : Option Gated → Bool
 is_begun None = false
 is_begun (Some gateway) = true
 
-abbrev pub is_over : Option Writing → Bool
+abbrev pub is_over : Option Gated → Bool
 is_over None = false
-is_over (Some gateway) = is_ended gateway.gate.stage
+is_over (Some gateway) = is_ended gateway.stage
 
-abbrev pub told_by_gateway : Option Writing → Tells RecordHead Frame
+abbrev pub told_by_gateway : Option Gated → Tells RecordHead Frame
 told_by_gateway gateway = record {
   part = IsToldBy part_of gateway;
   out = IsToldBy out_of gateway;
@@ -54,16 +54,3 @@ told_by_gateway gateway = record {
   started = is_begun gateway;
   ended = is_over gateway;
 }
-
--- ---- what is true of a gateway between two calls
-
--- there are frames that it stands for
-pub record IsOfHistory (gate : Gated) : Type 0 where
-  pub head : RecordHead
-  pub received : List Received
-  pub given : ℕ
-  pub stands : StandsFor gate head received (is_ended gate.stage) given
-
-abbrev pub HasHistory : Option Writing → Type 0
-HasHistory None = Unit {0}
-HasHistory (Some gateway) = IsOfHistory gateway.gate

@@ -232,11 +232,6 @@ pub record IsAtRest (gate : Gated) : Type 0 where
   pub stage : gate.stage ≡ stages.Waiting
   pub telling : gate.telling ≡ telling.Nothing
 
--- the same with the record that was written last
-pub record Writing : Type 0 where
-  pub gate : Gated
-  pub written : List ℕ
-
 -- the binder that gives what a frame made due is there
 abbrev pub IsWithin : Stage → ℕ → Type 0
 IsWithin stages.Waiting number = Unit {0}
@@ -244,9 +239,8 @@ IsWithin (stages.Drawing index) number = index < number
 IsWithin (stages.Ending index) number = Unit {0}
 IsWithin stages.Over number = Unit {0}
 
--- what is true of every gateway: there is a list of frames that it stands for, and there is memory for all buffers and for the
--- longest record
-pub record IsWriting (gate : Gated) (size room : ℕ) : Type 0 where
+-- there is a list of frames that a gateway stands for, and there is memory for all buffers
+pub record IsSound (gate : Gated) : Type 0 where
   pub head : RecordHead
   pub received : List Received
   pub given : ℕ
@@ -254,5 +248,20 @@ pub record IsWriting (gate : Gated) (size room : ℕ) : Type 0 where
   pub buffers : length gate.empty + sum_by number_kept gate.binders ≤ gate.capacity
   pub small : gate.taken < 2 ^ 63
   pub drawing : IsWithin gate.stage (length gate.binders)
+
+-- of so many binders none can be drawn from
+abbrev pub IsAtHalt : Stage → (number : ℕ) → Type 0
+IsAtHalt stages.Waiting number = Unit {0}
+IsAtHalt (stages.Drawing index) number = ⊥
+IsAtHalt (stages.Ending index) number = number ≤ index
+IsAtHalt stages.Over number = Unit {0}
+
+-- something is told now, or no binder can be drawn from
+abbrev pub IsDrawnAhead : Gated → Type 0
+IsDrawnAhead gate = gate.telling ≡ telling.Nothing → IsAtHalt gate.stage (length gate.binders)
+
+-- what is true of every gateway, which has room for a record of so many bytes
+pub record IsReady (gate : Gated) (room : ℕ) : Type 0 where
+  pub sound : IsSound gate
+  pub ahead : IsDrawnAhead gate
   pub longest : room ≡ 262144
-  pub within : size ≤ room

@@ -1,10 +1,11 @@
 -- What a gateway does in one call.
-use Rattle.std.specs.Prelude.{◌≡◌, ◌⊎◌, ℕ, ◌+◌, ◌<◌, ◌≤◌, ◌^◌, false, Result, Ok, Err, List, [], ◌∷◌, ◌++◌, length, slice_get, slice_index, slice_set, vec_capacity, Option, Some, None, IfSome}
+use Rattle.std.specs.Prelude.{◌≡◌, ◌⊎◌, ℕ, ◌+◌, ◌*◌, ◌<◌, ◌≤◌, ◌^◌, false, Result, Ok, Err, List, [], ◌∷◌, ◌++◌, length, slice_get, slice_index, slice_set, vec_capacity, Option, Some, None, IfSome}
 use Rattle.std.specs.List.{AllByRecursion}
+use Rattle.vrt_words.specs.Begins.{IsDatagram}
 use Rattle.vrt_words.specs.Buffer.{Buffer}
 use Rattle.difi_context.specs.declared.context.ContextRec.{ContextRec}
 use Rattle.vrt_time.specs.Time.{TimeStamp}
-use Rattle.difi_packet.specs.Packet.{PacketValue, DataValue, ContextValue, VersionValue, ControlValue, CancelValue, AckValue}
+use Rattle.difi_packet.specs.Packet.{PacketValue, DataValue, ContextValue, VersionValue, ControlValue, CancelValue, AckValue, IsPacket}
 use Rattle.sample_binder.specs.Binder as binder
 use Rattle.sample_binder.specs.Binder.{Bound, number_kept}
 use Rattle.sample_binder.specs.Calls.{Call, ContextCall, DataCall}
@@ -14,6 +15,7 @@ use Rattle.sample_binder.specs.declared.turned.Turned.TheVariants as turned
 use Rattle.release_form.specs.declared.refusal.Refusal.{Refusal}
 use Rattle.release_form.specs.declared.refusal.Refusal.TheVariants.{Malformed, NoRoute, Late, Repeat, Conflict, Answer}
 use Rattle.stream_routes.specs.Ports.{IsRouteAt}
+use Rattle.difi_gateway.specs.Judged.{IsNoPacket}
 use Rattle.difi_gateway.specs.Told.{turned_away}
 use Rattle.difi_gateway.specs.State.{Gated, HasRoom, IsKeptFew}
 use Rattle.difi_gateway.specs.declared.parts.Parts.{Parts}
@@ -185,3 +187,19 @@ IsTaken (VersionValue rec) port bytes old new = IsVersionTaken rec.prologue.stre
 IsTaken (ControlValue packet) port bytes old new = new ≡ refused old port (length bytes) Malformed 0 None
 IsTaken (CancelValue packet) port bytes old new = new ≡ refused old port (length bytes) Malformed 0 None
 IsTaken (AckValue packet) port bytes old new = new ≡ refused old port (length bytes) Answer 0 None
+
+-- a frame was taken: its datagram is a packet, or it is refused
+pub record IsPacketTaken (port : ℕ) (bytes : List ℕ) (old new : Gated) : Type 0 where
+  pub value : PacketValue
+  pub fits : length bytes ≤ 4 * old.max_words
+  pub packet : IsDatagram (IsPacket old.profile) value bytes
+  pub taken : IsTaken value port bytes old new
+
+pub record IsNoneTaken (port : ℕ) (bytes : List ℕ) (old new : Gated) : Type 0 where
+  pub refusal : Refusal
+  pub detail : ℕ
+  pub none : IsNoPacket old.profile old.max_words bytes refusal detail
+  pub after : new ≡ refused old port (length bytes) refusal detail None
+
+abbrev pub IsFrameTaken : (port : ℕ) → List ℕ → Gated → Gated → Type 0
+IsFrameTaken port bytes old new = IsPacketTaken port bytes old new ⊎ IsNoneTaken port bytes old new

@@ -1,6 +1,5 @@
 ghost use Rattle.std.specs.Prelude.{◌≡◌, ◌↔◌, ℕ, ◌+◌, ◌≤◌, Bool, true, false, List, [], ◌∷◌, ◌++◌, length, map, Option};
 ghost use Rattle.std.specs.List.{AllByRecursion, sum_by};
-ghost use Rattle.vrt_words.specs.Words.{AreBytes};
 ghost use Rattle.vrt_time.specs.Time.{TimeStamp};
 ghost use Rattle.vrt_fields.specs.Route.{AreRoutes};
 ghost use Rattle.replay_form.specs.FrameFields.{Frame};
@@ -13,6 +12,8 @@ ghost use Rattle.difi_gateway.specs.Contents.{Content, IsContent, Received, IsRe
 ghost use Rattle.difi_gateway.specs.Datagrams.{HoldBytes};
 ghost use Rattle.difi_gateway.specs.Isolation.{runs_of_stream, only, releases_of_stream, AreStreamRecords};
 ghost use Rattle.difi_gateway.specs.Told.{RefusedItem, is_listed, runs_told, told_by, told, told_from};
+ghost use Rattle.record_run.specs.Outcome.{IsPart};
+ghost use Rattle.difi_gateway.specs.Replayed.{BeginsEach, replay_of};
 ghost use Rattle.difi_gateway.specs.Releases.{Release, copies, bound_samples, uncertain_samples, raw_packets, refused_frames, versions, part_of, all_told, out_of, AreRecordsOf, IsPartOf, IsOutOf};
 ghost use Rattle.difi_gateway.specs.Written.{IsWritableItem, CanBeWritten};
 
@@ -30,9 +31,9 @@ pub fn datagrams_hold_one_thing()
 /// with it.
 #[inline]
 pub fn frames_have_one_text()
-    ensures so_far { (head : RecordHead) (frames : List Frame) (a b : List ℕ) → AreBytes a → AreBytes b
+    ensures so_far { (head : RecordHead) (frames : List Frame) (a b : List ℕ)
         → IsPartOf head frames a → IsPartOf head frames b → a ≡ b }
-    ensures whole { (head : RecordHead) (frames : List Frame) (a b : List ℕ) → AreBytes a → AreBytes b
+    ensures whole { (head : RecordHead) (frames : List Frame) (a b : List ℕ)
         → IsOutOf head frames a → IsOutOf head frames b → a ≡ b }
 {}
 
@@ -48,15 +49,23 @@ pub fn more_frames_append()
     ensures bytes { (head : RecordHead) (frames later : List Frame) (bytes : List ℕ)
         → IsPartOf head (frames ++ later) bytes
         → (front : List ℕ) × (rest : List ℕ) × (bytes ≡ front ++ rest) × IsPartOf head frames front }
-    ensures begins { (head : RecordHead) (frames later : List Frame) (a b : List ℕ) → AreBytes a → AreBytes b
+    ensures begins { (head : RecordHead) (frames later : List Frame) (a b : List ℕ)
         → IsPartOf head frames a → IsPartOf head (frames ++ later) b → (rest : List ℕ) × (b ≡ a ++ rest) }
     ensures all_releases { (head : RecordHead) (received : List Received)
         → (more : List Release) × (out_of head received ≡ part_of head received ++ more) }
     ensures all_bytes { (head : RecordHead) (frames : List Frame) (bytes : List ℕ)
         → IsOutOf head frames bytes
         → (front : List ℕ) × (rest : List ℕ) × (bytes ≡ front ++ rest) × IsPartOf head frames front }
-    ensures all_begins { (head : RecordHead) (frames later : List Frame) (a b : List ℕ) → AreBytes a → AreBytes b
+    ensures all_begins { (head : RecordHead) (frames later : List Frame) (a b : List ℕ)
         → IsPartOf head frames a → IsOutOf head (frames ++ later) b → (rest : List ℕ) × (b ≡ a ++ rest) }
+{}
+
+/// A law that a proof can cite. What is told of bytes begins what is told of all bytes that begin with
+/// them, as far as these go and as a whole record. So what was written before a read failed begins
+/// what is written of every record that begins with the bytes that were taken.
+#[inline]
+pub fn more_bytes_append()
+    ensures { (most : ℕ) (bytes text : List ℕ) → IsPart (replay_of most) bytes text → BeginsEach (replay_of most) bytes text }
 {}
 
 /// A law that a proof can cite. Where a stream is listed among the routes, its runs among what is told
@@ -135,11 +144,10 @@ pub fn streams_are_kept_apart()
     ensures there { (stream : ℕ) (releases : List Release) (bytes : List ℕ) → AreRecordsOf releases bytes
         → (part : List ℕ) × AreStreamRecords stream releases bytes part }
     ensures bytes_so_far { (head : RecordHead) (stream : ℕ) (received : List Received) (bytes others part other : List ℕ)
-        → AreBytes bytes → AreBytes others
         → AreStreamRecords stream (part_of head received) bytes part
         → AreStreamRecords stream (part_of head (only stream received)) others other → part ≡ other }
     ensures bytes { (head : RecordHead) (second : Bool) (stream : ℕ) (received : List Received) (bytes others part other : List ℕ)
-        → AreRoutes second head.routes → AreBytes bytes → AreBytes others
+        → AreRoutes second head.routes
         → AreStreamRecords stream (out_of head received) bytes part
         → AreStreamRecords stream (out_of head (only stream received)) others other → part ≡ other }
 {}

@@ -6,6 +6,8 @@ mod content;
 mod drawing;
 mod drawn;
 mod gateway;
+#[cfg(test)]
+mod gateway_tests;
 mod laws;
 mod moving;
 mod opening;
@@ -17,14 +19,13 @@ mod replay;
 mod replay_tests;
 mod replaying;
 mod stage;
-mod step;
 mod telling;
 mod writing;
 
 pub use crate::gateway::Gateway;
 pub use crate::laws::{
     calls_are_of_packets, counts_are_at_most_bytes, datagrams_hold_one_thing,
-    forms_have_the_same_releases, frames_have_one_text, more_frames_append,
+    forms_have_the_same_releases, frames_have_one_text, more_bytes_append, more_frames_append,
     refused_frames_change_no_run, releases_can_be_written, runs_are_of_outputs,
     streams_are_kept_apart,
 };

@@ -1,13 +1,15 @@
-ghost use Rattle.std.specs.Prelude.{◌≡◌, ◌≢◌, IsTrue, false, ℕ, ◌+◌, ◌<◌, ◌≤◌, ◌^◌, length, slice_index, vec_capacity};
+ghost use Rattle.std.specs.Prelude.{◌≡◌, ◌≢◌, IsTrue, false, ℕ, ◌+◌, ◌<◌, ◌≤◌, ◌^◌, length, slice_index, take, vec_capacity, IfSome, IfNone};
 ghost use Rattle.std.specs.List.{sum_by};
 ghost use Rattle.sample_binder.specs.Binder.{number_kept};
+ghost use Rattle.difi_gateway.specs.State.{IsSound, IsDrawnAhead, IsWithin};
 ghost use Rattle.difi_gateway.specs.Drawing.{MayGoOn};
-ghost use Rattle.difi_gateway.specs.Progress.{IsMoved};
+ghost use Rattle.difi_gateway.specs.Progress.{IsMoved, IsDrawnAt, IsOnWay, IsNextGiven, IsNoneGiven, IsOwing, IsSettledAt};
 ghost use Rattle.difi_gateway.specs.Steps.{gated};
 ghost use Rattle.difi_gateway.specs.declared.telling.Telling.TheVariants as telling;
 
 use crate::drawn::Drawn;
 use crate::parts::Parts;
+use crate::stage::Stage;
 use crate::telling::Telling;
 
 impl Parts {
@@ -19,8 +21,59 @@ impl Parts {
         !matches!(self.telling, Telling::Nothing)
     }
 
+    /// Whether a release is owed, where no binder can be drawn from.
+    pub fn owes(&self) -> bool
+        ensures owing { IsTrue result → IsOwing (gated self.now) }
+        ensures settled { result ≡ false → IsDrawnAhead (gated self.now) → IsSettledAt (gated self.now) }
+    {
+        if self.tells() {
+            return true;
+        }
+        match self.stage {
+            Stage::Waiting | Stage::Drawing { .. } | Stage::Over => false,
+            Stage::Ending { .. } => true,
+        }
+    }
+
+    /// Draws from the binders until something is told, or none of them can be drawn from.
+    #[inline]
+    pub fn draw_ahead(&mut self)
+        requires { IsSound (gated self.old) }
+        ensures way { IsOnWay (gated self.old) (gated self.new) }
+        ensures sound { IsSound (gated self.new) }
+        ensures ahead { IsDrawnAhead (gated self.new) }
+    {
+        while let Some(index) = self.route_to_draw() {
+            self.move_on(index);
+        }
+    }
+
+    // The index of the route whose binder can be drawn from.
+    #[inline]
+    fn route_to_draw(&self) -> Option<usize>
+        requires { IsWithin self.now.stage (length self.now.binders.items) }
+        ensures some { IfSome result (λ index. IsDrawnAt index (gated self.now)) }
+        ensures none { IfNone result (IsDrawnAhead (gated self.now)) }
+    {
+        if self.tells() {
+            return None;
+        }
+        match self.stage {
+            Stage::Waiting | Stage::Over => None,
+            Stage::Drawing { index } => Some(index),
+            Stage::Ending { index } => {
+                if index < self.binders.len() {
+                    Some(index)
+                } else {
+                    None
+                }
+            }
+        }
+    }
+
     /// Draws the next output of the binder of this route, or goes on behind it where it owes nothing.
-    pub fn move_on(&mut self, index: usize)
+    #[inline]
+    fn move_on(&mut self, index: usize)
         requires within { index < length self.old.binders.items }
         requires room { length self.old.empty.items + sum_by number_kept self.old.binders.items ≤ vec_capacity self.old.empty }
         requires bound { slice_index self.old.counts 1 < 2 ^ 63 }
@@ -32,6 +85,42 @@ impl Parts {
         match self.draw_next(index) {
             Drawn::Packet | Drawn::Run => (),
             Drawn::Nothing => self.go_on(),
+        }
+    }
+
+    /// Writes the next release record at the front of `into`, and draws ahead. Its length in bytes, or
+    /// `None` where nothing is owed.
+    pub fn write_next(&mut self, into: &mut [u8]) -> Option<usize>
+        requires sound { IsSound (gated self.old) }
+        requires ahead { IsDrawnAhead (gated self.old) }
+        requires longest { length into.old ≡ 262144 }
+        ensures given { IfSome result (λ size. IsNextGiven (take size into.new) (gated self.old) (gated self.new)) }
+        ensures room { IfSome result (λ size. size ≤ length into.new) }
+        ensures ahead { IfSome result (λ size. IsDrawnAhead (gated self.new)) }
+        ensures none { IfNone result (IsNoneGiven (gated self.old) (gated self.new)) }
+    {
+        let Some(size) = self.write_owed(into) else {
+            return None;
+        };
+        self.draw_ahead();
+        Some(size)
+    }
+
+    // The same, and draws nothing.
+    fn write_owed(&mut self, into: &mut [u8]) -> Option<usize>
+        requires sound { IsSound (gated self.old) }
+        requires ahead { IsDrawnAhead (gated self.old) }
+        requires longest { length into.old ≡ 262144 }
+        ensures given { IfSome result (λ size. IsNextGiven (take size into.new) (gated self.old) (gated self.new)) }
+        ensures room { IfSome result (λ size. size ≤ length into.new) }
+        ensures none { IfNone result (IsNoneGiven (gated self.old) (gated self.new)) }
+    {
+        if self.tells() {
+            return Some(self.write_copy(into));
+        }
+        match self.stage {
+            Stage::Waiting | Stage::Drawing { .. } | Stage::Over => None,
+            Stage::Ending { .. } => Some(self.write_end(into)),
         }
     }
 }

@@ -19,8 +19,8 @@ fn sizes(alloc: Global, bytes: &[u8]) -> Result<(usize, usize, Option<usize>), F
     };
     let head = reader.head().ok_or("no header")?;
     let gateway = Gateway::open(alloc, head)?;
-    if !gateway.written().is_empty() {
-        return Err(Fail::from("a record was written"));
+    if gateway.owes() {
+        return Err(Fail::from("a record is owed"));
     }
     let parts = open_parts(alloc, head)?;
     let room = parts.empty.last().map(|buf| buf.room());

@@ -6,9 +6,10 @@ ghost use Rattle.difi_context.specs.Context.{IsSpelled};
 ghost use Rattle.difi_packet.specs.Packet.{IsPacket, value_of};
 ghost use Rattle.sample_binder.specs.Given.{IsDataOf};
 ghost use Rattle.difi_gateway.specs.State.{HasRoom};
-ghost use Rattle.difi_gateway.specs.Steps.{gated, refused, refused_for, drawing, MayTake, IsTaken, IsContextTaken, IsDataTaken, IsVersionTaken};
+ghost use Rattle.difi_gateway.specs.Steps.{gated, refused, refused_for, drawing, MayTake, IsTaken, IsContextTaken, IsDataTaken, IsVersionTaken, IsFrameTaken};
 
 use crate::calling::{call_context, call_data};
+use crate::content::{packet_of, stream_of_data};
 use crate::stage::Stage;
 use crate::telling::Telling;
 use difi_context::ContextRec;
@@ -51,6 +52,31 @@ pub(crate) struct Parts {
 }
 
 impl Parts {
+    /// Takes a frame, or refuses it.
+    pub fn take_frame(&mut self, port: u16, bytes: &[u8])
+        requires ready { MayTake (gated self.old) (length bytes.now) }
+        requires short { length bytes.now ≤ 65535 }
+        ensures { IsFrameTaken port bytes.now (gated self.old) (gated self.new) }
+    {
+        match stream_of_data(self.profile, self.max_words, bytes) {
+            Some(stream) => self.take_data(port, stream, bytes),
+            None => self.take_any(port, bytes),
+        }
+    }
+
+    // The same for a datagram of any kind.
+    #[inline(never)]
+    fn take_any(&mut self, port: u16, bytes: &[u8])
+        requires ready { MayTake (gated self.old) (length bytes.now) }
+        requires short { length bytes.now ≤ 65535 }
+        ensures { IsFrameTaken port bytes.now (gated self.old) (gated self.new) }
+    {
+        match packet_of(self.profile, self.max_words, bytes) {
+            Ok(packet) => self.take(port, &packet, bytes),
+            Err((refusal, detail)) => self.refuse(port, bytes.len(), refusal, detail, None),
+        }
+    }
+
     /// Takes the packet that these bytes are, or refuses it.
     pub fn take(&mut self, port: u16, packet: &Packet<'_>, bytes: &[u8])
         requires ready { MayTake (gated self.old) (length bytes.now) }

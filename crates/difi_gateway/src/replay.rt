@@ -1,8 +1,8 @@
 ghost use Rattle.std.specs.Prelude.{◌≡◌, ◌≤◌, ◌^◌, ◌⊎◌, IfSome};
 ghost use Rattle.difi_io.specs.Faults.{Rose};
 ghost use Rattle.replay_form.specs.RecordGrammar.{record_grammar};
-ghost use Rattle.record_run.specs.Outcome.{IsOutcome, IsVerdict};
-ghost use Rattle.difi_gateway.specs.Replayed.{replay_of};
+ghost use Rattle.record_run.specs.Outcome.{IsVerdict};
+ghost use Rattle.difi_gateway.specs.Replayed.{IsReplayed};
 
 use crate::replaying::Replay;
 use difi_io::{Gate, Sink, Source};
@@ -24,7 +24,8 @@ pub fn replay_run<R: Threads + Sync, S: Source + Send, K: Sink + Send, G: Gate +
     _gate: &G,
 ) -> Status
     requires { options.now.max_bytes ≤ 2 ^ 62 }
-    ensures outcome { IsOutcome result (replay_of options.now.max_bytes)
+    // How it ended, with what was written; that it begins what is written of more bytes; and that streams are kept apart.
+    ensures replayed { IsReplayed result options.now.max_bytes
         (record {
           left = S.left source.old;
           left_now = S.left source.new;

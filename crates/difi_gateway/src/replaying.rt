@@ -1,3 +1,6 @@
+ghost use Rattle.std.specs.Prelude.{◌≡◌, ◌≤◌, ◌+◌, ◌++◌, length};
+ghost use Rattle.vrt_words.specs.Words.{AreBytes};
+
 use crate::gateway::Gateway;
 use record_run::Teller;
 use replay_form::RecordReader;
@@ -15,14 +18,11 @@ pub(crate) struct Replay {
 
 impl Model for Replay {
     ghost use Rattle.std.specs.Prelude.{Option};
-    ghost use Rattle.difi_gateway.specs.State.{Writing};
-    ghost use Rattle.difi_gateway.specs.Replaying.{HasHistory};
+    ghost use Rattle.difi_gateway.specs.State.{Gated};
 
-    ghost Value = { Option Writing };
+    ghost Value = { Option Gated };
 
     ghost view = { λ it. it.gateway };
-
-    ghost invariant = { λ it. HasHistory it.gateway };
 }
 
 impl Replay {
@@ -82,10 +82,20 @@ impl Teller<RecordReader> for Replay {
         let Some(gateway) = &mut self.gateway else {
             unreachable!()
         };
-        if !gateway.write_next() {
+        let Some(bytes) = gateway.next_record() else {
             return false;
-        }
-        out.push(gateway.written());
+        };
+        put(out, bytes);
         true
     }
+}
+
+// Puts the bytes of a release record behind those that wait.
+#[inline]
+fn put(out: &mut TextBuffer, release: &[u8])
+    requires { length out.old + length release.now ≤ 327680 }
+    ensures put { out.new ≡ out.old ++ release.now }
+    ensures bytes { AreBytes release.now }
+{
+    out.push(release);
 }

@@ -1,6 +1,6 @@
 //! Faults of the source and the sink at each call.
 
-use crate::records::{header, run_with};
+use crate::records::{front, header, read_fails, run_with, write_fails};
 use difi_cmd::Status;
 use std::alloc::Global;
 use std::test::Fail;
@@ -16,40 +16,35 @@ fn one_frame(alloc: Global) -> Result<Vec<u8>, Fail> {
 
 #[test]
 fn a_read_that_fails_is_told_behind_the_frames_before(rt: HostRuntime) -> Result<(), Fail> {
-    let record = one_frame(rt.alloc())?;
+    let alloc = rt.alloc();
+    let record = one_frame(alloc)?;
+    let bytes = record.as_slice();
     // 468 bytes in pieces of 100 are five reads, the fifth makes the frame whole, and a sixth tells
     // the end.
-    for call in 1..8 {
-        let outcome = run_with(&rt, rt.alloc(), record.as_slice(), 100, &[call], &[])?;
-        if call <= 5 {
-            assert!(rt; outcome.status == Status::ReadFault);
-            assert!(rt; outcome.text.is_empty());
-        } else if call == 6 {
-            assert!(rt; outcome.status == Status::ReadFault);
-            assert_eq!(rt; outcome.text.as_slice(), &TEXT.as_bytes()[..35]);
-        } else {
-            assert!(rt; outcome.status == Status::Done);
-            assert_eq!(rt; outcome.text.as_slice(), TEXT.as_bytes());
-        }
+    for call in 1..6 {
+        assert!(rt; read_fails(&rt, alloc, &["check"], bytes, 100, call, b"")?);
     }
+    let line = front(TEXT.as_bytes(), 35);
+    assert!(rt; read_fails(&rt, alloc, &["check"], bytes, 100, 6, line)?);
+    let outcome = run_with(&rt, alloc, bytes, 100, &[7], &[])?;
+    assert!(rt; outcome.status == Status::Done);
+    assert_eq!(rt; outcome.text.as_slice(), TEXT.as_bytes());
     Ok(())
 }
 
 #[test]
 fn a_write_that_fails_is_told_behind_what_was_written(rt: HostRuntime) -> Result<(), Fail> {
-    let record = one_frame(rt.alloc())?;
+    let alloc = rt.alloc();
+    let record = one_frame(alloc)?;
+    let bytes = record.as_slice();
     // A line of 35 bytes in pieces of 10 is four writes, and the last one of 24 bytes is three.
-    let held = [0, 10, 20, 30, 35, 45, 55, 59];
-    for call in 1..9 {
-        let outcome = run_with(&rt, rt.alloc(), record.as_slice(), 10, &[], &[call])?;
-        assert!(rt; TEXT.as_bytes().starts_with(outcome.text.as_slice()));
-        assert!(rt; outcome.text.len() == held[(call - 1) as usize]);
-        if call <= 7 {
-            assert!(rt; outcome.status == Status::WriteFault);
-        } else {
-            assert!(rt; outcome.status == Status::Done);
-        }
+    for (call, held) in [(1, 0), (2, 10), (3, 20), (4, 30), (5, 35), (6, 45), (7, 55)] {
+        let text = front(TEXT.as_bytes(), held);
+        assert!(rt; write_fails(&rt, alloc, &["check"], bytes, 10, call, text)?);
     }
+    let outcome = run_with(&rt, alloc, bytes, 10, &[], &[8])?;
+    assert!(rt; outcome.status == Status::Done);
+    assert_eq!(rt; outcome.text.as_slice(), TEXT.as_bytes());
     Ok(())
 }
 

@@ -1,6 +1,6 @@
 //! Records that are none, and the offset at which each is told to be wrong.
 
-use crate::records::{front, header, run, run_line, second_header};
+use crate::records::{front, header, run, run_line, second_header, writes};
 use difi_cmd::Status;
 use std::alloc::Global;
 use std::test::Fail;
@@ -24,15 +24,8 @@ fn is_wrong_at<R: Threads + Sync>(
     offset: u64,
     text: &str,
 ) -> Result<bool, Fail> {
-    for piece in [1, 7, 4096] {
-        let outcome = run_line(rt, alloc, &["check"], record, piece, &[], &[])?;
-        if outcome.status != (Status::BadRecord { offset })
-            || outcome.text.as_slice() != text.as_bytes()
-        {
-            return Ok(false);
-        }
-    }
-    Ok(true)
+    let status = Status::BadRecord { offset };
+    writes(rt, alloc, &["check"], record, status, text.as_bytes())
 }
 
 // The record with some bytes put at an offset.
@@ -123,27 +116,10 @@ fn picoseconds_rise_within_a_second_alone(rt: HostRuntime) -> Result<(), Fail> {
 #[test]
 fn an_early_end_is_told_with_the_number_of_bytes(rt: HostRuntime) -> Result<(), Fail> {
     let record = one_frame(rt.alloc())?;
-    for length in [0, 7, 100, 331, 339] {
-        assert!(rt;
-            is_wrong_at(
-                &rt,
-                rt.alloc(),
-                front(record.as_slice(), length),
-                length as u64,
-                ""
-            )?
-        );
-    }
-    for length in [341, 359, 467] {
-        assert!(rt;
-            is_wrong_at(
-                &rt,
-                rt.alloc(),
-                front(record.as_slice(), length),
-                length as u64,
-                ""
-            )?
-        );
+    // The header ends at 340, and the frame at 468.
+    for length in [0, 7, 100, 331, 339, 341, 359, 467] {
+        let bytes = front(record.as_slice(), length);
+        assert!(rt; is_wrong_at(&rt, rt.alloc(), bytes, length as u64, "")?);
     }
     assert!(rt; is_wrong_at(&rt, rt.alloc(), b"DIFIREC2", 8, "")?);
     assert!(rt; is_wrong_at(&rt, rt.alloc(), b"DIFIREC3", 0, "")?);

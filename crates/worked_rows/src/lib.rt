@@ -8,6 +8,8 @@ mod commands;
 #[cfg(test)]
 mod faults;
 #[cfg(test)]
+mod migrated;
+#[cfg(test)]
 mod order;
 #[cfg(test)]
 mod packets;

@@ -52,6 +52,56 @@ pub fn run_line<R: Threads + Sync>(
     Ok(Outcome { status, text })
 }
 
+/// Whether a line makes this of a record, however reads and writes are cut.
+pub fn writes<R: Threads + Sync>(
+    rt: &R,
+    alloc: Global,
+    line: &[&str],
+    record: &[u8],
+    status: Status,
+    text: &[u8],
+) -> Result<bool, Fail> {
+    for piece in [1, 7, 4096] {
+        let outcome = run_line(rt, alloc, line, record, piece, &[], &[])?;
+        if outcome.status != status || outcome.text.as_slice() != text {
+            return Ok(false);
+        }
+    }
+    Ok(true)
+}
+
+/// Whether the run of which this read fails is told so, and wrote this text before.
+pub fn read_fails<R: Threads + Sync>(
+    rt: &R,
+    alloc: Global,
+    line: &[&str],
+    record: &[u8],
+    piece: usize,
+    call: u64,
+    text: &[u8],
+) -> Result<bool, Fail>
+    requires { 1 ≤ piece }
+{
+    let outcome = run_line(rt, alloc, line, record, piece, &[call], &[])?;
+    Ok(outcome.status == Status::ReadFault && outcome.text.as_slice() == text)
+}
+
+/// Whether the run of which this write fails is told so, and wrote this text before.
+pub fn write_fails<R: Threads + Sync>(
+    rt: &R,
+    alloc: Global,
+    line: &[&str],
+    record: &[u8],
+    piece: usize,
+    call: u64,
+    text: &[u8],
+) -> Result<bool, Fail>
+    requires { 1 ≤ piece }
+{
+    let outcome = run_line(rt, alloc, line, record, piece, &[], &[call])?;
+    Ok(outcome.status == Status::WriteFault && outcome.text.as_slice() == text)
+}
+
 /// Runs `check` over a record that is read in pieces, and whose listed reads and writes fail.
 pub fn run_with<R: Threads + Sync>(
     rt: &R,

@@ -1,6 +1,6 @@
 //! Records of contexts and data packets, and the releases that `replay` makes of them.
 
-use crate::records::run_line;
+use crate::records::writes;
 use difi_cmd::Status;
 use std::alloc::Global;
 use std::test::Fail;
@@ -114,6 +114,16 @@ pub fn end(counts: Counts) -> [u32; 16] {
     ]
 }
 
+/// The same of so many frames, of which so many are refused, and so many raw packets.
+pub fn end_of_raw(frames: u32, refused: u32, raw: u32) -> [u32; 16] {
+    end(Counts {
+        frames,
+        raw,
+        refused,
+        ..NONE
+    })
+}
+
 /// A record: a header, and datagrams of these words.
 pub fn record_of(alloc: Global, header: &[u32], datagrams: &[&[u32]]) -> Result<Vec<u8>, Fail> {
     let mut record = Vec::new(alloc);
@@ -124,6 +134,20 @@ pub fn record_of(alloc: Global, header: &[u32], datagrams: &[&[u32]]) -> Result<
         push_frame(&mut record, bytes.as_slice())?;
     }
     Ok(record)
+}
+
+/// A record of three contexts, of which the third comes two seconds behind the second, and a sample half
+/// a second behind the second.
+pub fn gap_record(alloc: Global, header: &[u32], third: &[u32]) -> Result<Vec<u8>, Fail> {
+    let first = context(START, 0);
+    let second = context(START + 1, 1);
+    let sample = data_at_half(START + 1, 0);
+    record_of(alloc, header, &[&first, &second, third, &sample])
+}
+
+/// The third of the contexts, where the one in front of it was lost.
+pub fn third_context() -> [u32; 27] {
+    context(START + 3, 3)
 }
 
 /// The bytes of these releases.
@@ -144,13 +168,7 @@ pub fn makes<R: Threads + Sync>(
     releases: &[&[u32]],
 ) -> Result<bool, Fail> {
     let wanted = bytes_of(alloc, releases)?;
-    for piece in [1, 7, 4096] {
-        let outcome = run_line(rt, alloc, &["replay"], record, piece, &[], &[])?;
-        if outcome.status != status || outcome.text.as_slice() != wanted.as_slice() {
-            return Ok(false);
-        }
-    }
-    Ok(true)
+    writes(rt, alloc, &["replay"], record, status, wanted.as_slice())
 }
 
 /// Whether `replay` of a header and these datagrams writes these releases.

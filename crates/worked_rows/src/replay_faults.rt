@@ -1,11 +1,9 @@
 //! `replay` with sources and sinks that fail, with records that end early, and with other words.
 
-ghost use Rattle.std.specs.Prelude.{◌≤◌};
-
-use crate::records::{Outcome, front, run_line};
+use crate::records::{front, read_fails, run_line, write_fails, writes};
 use crate::releases::{
-    Counts, NONE, START, bytes_of, context, data, data_at_half, end, makes, raw_at_half, record_of,
-    refused, replays,
+    START, bytes_of, context, data, data_at_half, end_of_raw, gap_record, raw_at_half, record_of,
+    refused, replays, third_context,
 };
 use difi_cmd::{Status, difi_run};
 use difi_io::{MemSink, MemSource, NoGate};
@@ -14,98 +12,64 @@ use std::test::Fail;
 use std::thread::Threads;
 use test_records::{BASE, HEADER, push_words, routed};
 
-// Three contexts of which the second last is lost, and a sample in the gap: a header of 340 bytes,
-// three frames of 128 and one of 52.
-fn gap_record(alloc: Global) -> Result<Vec<u8>, Fail> {
-    record_of(
-        alloc,
-        &routed(),
-        &[
-            &context(START, 0),
-            &context(START + 1, 1),
-            &context(START + 3, 3),
-            &data_at_half(START + 1, 0),
-        ],
-    )
+// A header of 340 bytes, three frames of 128 and one of 52.
+fn lost_record(alloc: Global) -> Result<Vec<u8>, Fail> {
+    gap_record(alloc, &routed(), &third_context())
 }
 
 // What is written of it: 48 bytes at its last frame, and 64 at its end.
-fn gap_text(alloc: Global) -> Result<Vec<u8>, Fail> {
-    let counts = Counts {
-        frames: 4,
-        raw: 1,
-        ..NONE
-    };
-    bytes_of(alloc, &[&raw_at_half(2, 1, START + 1), &end(counts)])
-}
-
-// A run over the record, of which the listed reads and writes fail.
-fn gap_run<R: Threads + Sync>(
-    rt: &R,
-    alloc: Global,
-    piece: usize,
-    reads: &[u64],
-    writes: &[u64],
-) -> Result<Outcome, Fail>
-    requires { 1 ≤ piece }
-{
-    let record = gap_record(alloc)?;
-    run_line(
-        rt,
+fn lost_text(alloc: Global) -> Result<Vec<u8>, Fail> {
+    bytes_of(
         alloc,
-        &["replay"],
-        record.as_slice(),
-        piece,
-        reads,
-        writes,
+        &[&raw_at_half(2, 1, START + 1), &end_of_raw(4, 0, 1)],
     )
 }
 
 #[test]
 fn a_read_that_fails_is_told_behind_the_releases_before(rt: HostRuntime) -> Result<(), Fail> {
-    let text = gap_text(rt.alloc())?;
+    let alloc = rt.alloc();
+    let record = lost_record(alloc)?;
+    let bytes = record.as_slice();
+    let text = lost_text(alloc)?;
     // 340 reads of a byte for the header, seven for the 436 bytes behind it, and one for the end.
-    for call in 1..350 {
-        let outcome = gap_run(&rt, rt.alloc(), 64, &[call], &[])?;
-        if call <= 347 {
-            assert!(rt; outcome.status == Status::ReadFault);
-            assert!(rt; outcome.text.is_empty());
-        } else if call == 348 {
-            assert!(rt; outcome.status == Status::ReadFault);
-            assert_eq!(rt; outcome.text.as_slice(), front(text.as_slice(), 48));
-        } else {
-            assert!(rt; outcome.status == Status::Done);
-            assert_eq!(rt; outcome.text.as_slice(), text.as_slice());
-        }
+    for call in 1..348 {
+        assert!(rt; read_fails(&rt, alloc, &["replay"], bytes, 64, call, b"")?);
     }
+    let part = front(text.as_slice(), 48);
+    assert!(rt; read_fails(&rt, alloc, &["replay"], bytes, 64, 348, part)?);
+    let outcome = run_line(&rt, alloc, &["replay"], bytes, 64, &[349], &[])?;
+    assert!(rt; outcome.status == Status::Done);
+    assert_eq!(rt; outcome.text.as_slice(), text.as_slice());
     Ok(())
 }
 
 #[test]
 fn a_write_that_fails_is_told_behind_what_was_written(rt: HostRuntime) -> Result<(), Fail> {
-    let text = gap_text(rt.alloc())?;
+    let alloc = rt.alloc();
+    let record = lost_record(alloc)?;
+    let bytes = record.as_slice();
+    let text = lost_text(alloc)?;
     // Three writes of 16 bytes, and four at the end.
-    let held = [0, 16, 32, 48, 64, 80, 96, 112];
-    for call in 1..9 {
-        let outcome = gap_run(&rt, rt.alloc(), 16, &[], &[call])?;
-        assert!(rt; text.as_slice().starts_with(outcome.text.as_slice()));
-        assert!(rt; outcome.text.len() == held[(call - 1) as usize]);
-        if call <= 7 {
-            assert!(rt; outcome.status == Status::WriteFault);
-        } else {
-            assert!(rt; outcome.status == Status::Done);
-        }
+    for (call, held) in [(1, 0), (2, 16), (3, 32), (4, 48), (5, 64), (6, 80), (7, 96)] {
+        let part = front(text.as_slice(), held);
+        assert!(rt; write_fails(&rt, alloc, &["replay"], bytes, 16, call, part)?);
     }
+    let outcome = run_line(&rt, alloc, &["replay"], bytes, 16, &[], &[8])?;
+    assert!(rt; outcome.status == Status::Done);
+    assert_eq!(rt; outcome.text.as_slice(), text.as_slice());
     Ok(())
 }
 
 #[test]
 fn of_a_read_and_a_write_that_fail_the_first_is_told(rt: HostRuntime) -> Result<(), Fail> {
+    let alloc = rt.alloc();
+    let record = lost_record(alloc)?;
+    let bytes = record.as_slice();
     // The release is written before the end is read.
-    let late = gap_run(&rt, rt.alloc(), 64, &[348], &[1])?;
+    let late = run_line(&rt, alloc, &["replay"], bytes, 64, &[348], &[1])?;
     assert!(rt; late.status == Status::WriteFault);
     assert!(rt; late.text.is_empty());
-    let early = gap_run(&rt, rt.alloc(), 64, &[347], &[1])?;
+    let early = run_line(&rt, alloc, &["replay"], bytes, 64, &[347], &[1])?;
     assert!(rt; early.status == Status::ReadFault);
     assert!(rt; early.text.is_empty());
     Ok(())
@@ -115,12 +79,8 @@ fn of_a_read_and_a_write_that_fail_the_first_is_told(rt: HostRuntime) -> Result<
 fn the_first_call_may_fail(rt: HostRuntime) -> Result<(), Fail> {
     let record = record_of(rt.alloc(), &HEADER, &[])?;
     let bytes = record.as_slice();
-    let read = run_line(&rt, rt.alloc(), &["replay"], bytes, 4096, &[1], &[])?;
-    assert!(rt; read.status == Status::ReadFault);
-    assert!(rt; read.text.is_empty());
-    let write = run_line(&rt, rt.alloc(), &["replay"], bytes, 4096, &[], &[1])?;
-    assert!(rt; write.status == Status::WriteFault);
-    assert!(rt; write.text.is_empty());
+    assert!(rt; read_fails(&rt, rt.alloc(), &["replay"], bytes, 4096, 1, b"")?);
+    assert!(rt; write_fails(&rt, rt.alloc(), &["replay"], bytes, 4096, 1, b"")?);
     Ok(())
 }
 
@@ -158,6 +118,17 @@ fn an_early_end_is_told_with_the_number_of_bytes(rt: HostRuntime) -> Result<(), 
     Ok(())
 }
 
+// Whether `replay` says that a record is wrong at this offset, and writes nothing.
+fn is_wrong_at<R: Threads + Sync>(
+    rt: &R,
+    alloc: Global,
+    record: &[u8],
+    offset: u64,
+) -> Result<bool, Fail> {
+    let status = Status::BadRecord { offset };
+    writes(rt, alloc, &["replay"], record, status, b"")
+}
+
 #[test]
 fn a_wrong_field_is_told_with_its_offset(rt: HostRuntime) -> Result<(), Fail> {
     let alloc = rt.alloc();
@@ -165,39 +136,13 @@ fn a_wrong_field_is_told_with_its_offset(rt: HostRuntime) -> Result<(), Fail> {
     // A second frame that came before the first; a frame at 10^12 picoseconds.
     let mut earlier = one.as_slice().to_vec(alloc)?;
     push_words(&mut earlier, &[START, 0, 0, 0x0005_0000, 0])?;
-    let offset = 468;
-    assert!(rt;
-        makes(
-            &rt,
-            alloc,
-            earlier.as_slice(),
-            Status::BadRecord { offset },
-            &[]
-        )?
-    );
+    assert!(rt; is_wrong_at(&rt, alloc, earlier.as_slice(), 468)?);
     let mut later = record_of(alloc, &routed(), &[])?;
     push_words(&mut later, &[START, 232, 3_567_587_328, 0x0005_0000, 0])?;
-    let offset = 344;
-    assert!(rt;
-        makes(
-            &rt,
-            alloc,
-            later.as_slice(),
-            Status::BadRecord { offset },
-            &[]
-        )?
-    );
+    assert!(rt; is_wrong_at(&rt, alloc, later.as_slice(), 344)?);
     // The magic of form 2 and no more, and no bytes at all.
-    assert!(rt;
-        makes(
-            &rt,
-            alloc,
-            b"DIFIREC2",
-            Status::BadRecord { offset: 8 },
-            &[]
-        )?
-    );
-    assert!(rt; makes(&rt, alloc, b"", Status::BadRecord { offset: 0 }, &[])?);
+    assert!(rt; is_wrong_at(&rt, alloc, b"DIFIREC2", 8)?);
+    assert!(rt; is_wrong_at(&rt, alloc, b"", 0)?);
     Ok(())
 }
 
@@ -264,18 +209,12 @@ fn a_forged_packet_of_another_stream_changes_no_run(rt: HostRuntime) -> Result<(
     forged[1] = 2;
     let mut last = data(START, 1);
     last[1] = 2;
-    let counts = Counts {
-        frames: 6,
-        raw: 2,
-        refused: 1,
-        ..NONE
-    };
     let ended = [3, 40, 2, 8, 0, 5, 0, 0xFFFF_FFFF, 0, 0, 0, 0x0001_0002];
     let frames: [&[u32]; 6] = [
         &forged,
         &context(START, 0),
         &context(START + 1, 1),
-        &context(START + 3, 3),
+        &third_context(),
         &data_at_half(START + 1, 0),
         &last,
     ];
@@ -283,7 +222,7 @@ fn a_forged_packet_of_another_stream_changes_no_run(rt: HostRuntime) -> Result<(
         &raw_at_half(2, 1, START + 1),
         &refused(6, 4, 0, 0xFFFF_FFFF),
         &ended,
-        &end(counts),
+        &end_of_raw(6, 1, 2),
     ];
     assert!(rt; replays(&rt, alloc, &two_routes(), &frames, &releases)?);
     Ok(())
@@ -297,12 +236,7 @@ fn four_contexts_are_lost_between_the_counts_0_and_5(rt: HostRuntime) -> Result<
         &context(START + 1, 5),
         &data_at_half(START, 0),
     ];
-    let counts = Counts {
-        frames: 3,
-        raw: 1,
-        ..NONE
-    };
-    let lost: [&[u32]; 2] = [&raw_at_half(2, 4, START), &end(counts)];
+    let lost: [&[u32]; 2] = [&raw_at_half(2, 4, START), &end_of_raw(3, 0, 1)];
     assert!(rt; replays(&rt, alloc, &routed(), &frames, &lost)?);
     Ok(())
 }

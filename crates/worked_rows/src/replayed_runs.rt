@@ -2,8 +2,8 @@
 
 use crate::records::run_line;
 use crate::releases::{
-    Counts, NONE, START, context, data, data_at_half, end, makes, raw, raw_at_half, record_of,
-    refused, replays,
+    Counts, NONE, START, context, data, end, end_of_raw, gap_record, makes, raw, raw_at_half,
+    record_of, refused, replays, third_context,
 };
 use difi_cmd::Status;
 use std::alloc::Global;
@@ -82,6 +82,15 @@ fn bound_pair(first: u32, picos: [u32; 2], context: &[u32; 27], samples: [u32; 2
     words
 }
 
+// The first two of the samples, bound to the first context.
+fn front_pair(context: &[u32; 27]) -> [u32; 35] {
+    let picos = [0x283D_4103, 0x9410_0000];
+    bound_pair(0, picos, context, [0x0001_0002, 0x0003_0004])
+}
+
+// The picoseconds of the other two, a second later.
+const BACK: [u32; 2] = [0x283D_41EC, 0x68B5_1000];
+
 #[test]
 fn samples_are_bound_to_the_contexts_of_their_moments(rt: HostRuntime) -> Result<(), Fail> {
     let alloc = rt.alloc();
@@ -89,68 +98,38 @@ fn samples_are_bound_to_the_contexts_of_their_moments(rt: HostRuntime) -> Result
     let first = slow_context(START, 0, 2, 0x500);
     let second = slow_context(START + 1, 1, 2, 0x600);
     let third = slow_context(START + 2, 2, 2, 0x500);
-    let front = bound_pair(
-        0,
-        [0x283D_4103, 0x9410_0000],
-        &first,
-        [0x0001_0002, 0x0003_0004],
-    );
-    let back = bound_pair(
-        2,
-        [0x283D_41EC, 0x68B5_1000],
-        &second,
-        [0x0005_0006, 0x0007_0008],
-    );
     let counts = Counts {
         frames: 4,
         bound: 4,
         ..NONE
     };
-    assert!(rt;
-        replays(
-            &rt,
-            alloc,
-            &routed(),
-            &[&first, &second, &third, &FOUR_SAMPLES],
-            &[&front, &back, &end(counts)]
-        )?
-    );
-    // Another rate from the third sample on.
+    let frames: [&[u32]; 4] = [&first, &second, &third, &FOUR_SAMPLES];
+    let back = bound_pair(2, BACK, &second, [0x0005_0006, 0x0007_0008]);
+    let releases: [&[u32]; 3] = [&front_pair(&first), &back, &end(counts)];
+    assert!(rt; replays(&rt, alloc, &routed(), &frames, &releases)?);
+    Ok(())
+}
+
+#[test]
+fn samples_behind_another_rate_are_uncertain(rt: HostRuntime) -> Result<(), Fail> {
+    let alloc = rt.alloc();
+    // Two samples in a second, and another rate from the third sample on.
+    let first = slow_context(START, 0, 2, 0x500);
     let faster = slow_context(START + 1, 1, 4, 0x600);
+    let third = slow_context(START + 2, 2, 2, 0x500);
     let counts = Counts {
+        frames: 4,
         bound: 2,
         uncertain: 2,
-        ..counts
+        ..NONE
     };
-    let changed = [
-        2,
-        0x40,
-        1,
-        9,
-        0,
-        6,
-        0,
-        START,
-        0,
-        0,
-        2,
-        2,
-        0,
-        0x5C,
-        0x283D_41EC,
-        0x68B5_1000,
-        0x0005_0006,
-        0x0007_0008,
-    ];
-    assert!(rt;
-        replays(
-            &rt,
-            alloc,
-            &routed(),
-            &[&first, &faster, &third, &FOUR_SAMPLES],
-            &[&front, &changed, &end(counts)]
-        )?
-    );
+    let mut changed = [0; 18];
+    changed[..14].copy_from_slice(&[2, 0x40, 1, 9, 0, 6, 0, START, 0, 0, 2, 2, 0, 0x5C]);
+    changed[14..16].copy_from_slice(&BACK);
+    changed[16..].copy_from_slice(&[0x0005_0006, 0x0007_0008]);
+    let frames: [&[u32]; 4] = [&first, &faster, &third, &FOUR_SAMPLES];
+    let releases: [&[u32]; 3] = [&front_pair(&first), &changed, &end(counts)];
+    assert!(rt; replays(&rt, alloc, &routed(), &frames, &releases)?);
     Ok(())
 }
 
@@ -169,12 +148,7 @@ fn forty_packets_wait_in_room_for_three(rt: HostRuntime) -> Result<(), Fail> {
         let reason = if k < 37 { 3 } else { 5 };
         push_words(&mut wanted, &raw(reason, 0, START + k))?;
     }
-    let counts = Counts {
-        frames: 40,
-        raw: 40,
-        ..NONE
-    };
-    push_words(&mut wanted, &end(counts))?;
+    push_words(&mut wanted, &end_of_raw(40, 0, 40))?;
     let outcome = run_line(&rt, alloc, &["replay"], record.as_slice(), 4096, &[], &[])?;
     assert!(rt; outcome.status == Status::Done);
     assert_eq!(rt; outcome.text.as_slice(), wanted.as_slice());
@@ -189,13 +163,8 @@ fn refuses<R: Threads + Sync>(
     refusal: u32,
     detail: u32,
 ) -> Result<bool, Fail> {
-    let counts = Counts {
-        frames: 1,
-        refused: 1,
-        ..NONE
-    };
-    let release = refused(1, refusal, detail, 0);
-    replays(rt, alloc, &routed(), &[datagram], &[&release, &end(counts)])
+    let releases: [&[u32]; 2] = [&refused(1, refusal, detail, 0), &end_of_raw(1, 1, 0)];
+    replays(rt, alloc, &routed(), &[datagram], &releases)
 }
 
 #[test]
@@ -222,58 +191,47 @@ fn a_frame_of_1601_bytes_is_too_large(rt: HostRuntime) -> Result<(), Fail> {
     let alloc = rt.alloc();
     let mut record = record_of(alloc, &routed(), &[])?;
     push_frame(&mut record, &[0; 1601])?;
-    let counts = Counts {
-        frames: 1,
-        refused: 1,
-        ..NONE
-    };
-    let wanted: [&[u32]; 2] = [&refused(1, 1, 1601, 0), &end(counts)];
+    let wanted: [&[u32]; 2] = [&refused(1, 1, 1601, 0), &end_of_raw(1, 1, 0)];
     assert!(rt; makes(&rt, alloc, record.as_slice(), Status::Done, &wanted)?);
     Ok(())
+}
+
+// The words of a header with a window of one data packet.
+fn one_behind() -> [u32; 85] {
+    let mut header = routed();
+    header[DATA_WINDOW] = 1;
+    header
 }
 
 #[test]
 fn a_packet_that_its_window_turns_away_is_refused(rt: HostRuntime) -> Result<(), Fail> {
     let alloc = rt.alloc();
-    let mut header = routed();
-    header[DATA_WINDOW] = 1;
-    let counts = Counts {
-        frames: 4,
-        raw: 3,
-        refused: 1,
-        ..NONE
-    };
     // The third packet releases the second, and the fourth is not above it.
-    assert!(rt;
-        replays(
-            &rt,
-            alloc,
-            &header,
-            &[
-                &data(START, 0),
-                &data(START + 1, 1),
-                &data(START + 2, 2),
-                &data(START + 1, 3)
-            ],
-            &[
-                &refused(4, 4, 0, START + 1),
-                &raw(5, 0, START),
-                &raw(5, 0, START + 1),
-                &raw(5, 0, START + 2),
-                &end(counts)
-            ]
-        )?
-    );
-    let counts = Counts {
-        frames: 2,
-        raw: 1,
-        ..counts
-    };
+    let frames: [&[u32]; 4] = [
+        &data(START, 0),
+        &data(START + 1, 1),
+        &data(START + 2, 2),
+        &data(START + 1, 3),
+    ];
+    let releases: [&[u32]; 5] = [
+        &refused(4, 4, 0, START + 1),
+        &raw(5, 0, START),
+        &raw(5, 0, START + 1),
+        &raw(5, 0, START + 2),
+        &end_of_raw(4, 1, 3),
+    ];
+    assert!(rt; replays(&rt, alloc, &one_behind(), &frames, &releases)?);
+    Ok(())
+}
+
+#[test]
+fn a_packet_with_the_stamp_of_another_is_refused(rt: HostRuntime) -> Result<(), Fail> {
+    let alloc = rt.alloc();
     for (count, refusal, detail) in [(5, 6, 3), (3, 5, 0)] {
         let packets: [&[u32]; 2] = [&data(START, 3), &data(START, count)];
         let turned = refused(2, refusal, detail, 0);
-        let releases: [&[u32]; 3] = [&turned, &raw(5, 0, START), &end(counts)];
-        assert!(rt; replays(&rt, alloc, &header, &packets, &releases)?);
+        let releases: [&[u32]; 3] = [&turned, &raw(5, 0, START), &end_of_raw(2, 1, 1)];
+        assert!(rt; replays(&rt, alloc, &one_behind(), &packets, &releases)?);
     }
     Ok(())
 }
@@ -299,46 +257,37 @@ fn a_version_goes_to_the_port_of_its_stream(rt: HostRuntime) -> Result<(), Fail>
         versions: 1,
         ..NONE
     };
-    assert!(rt;
-        replays(
-            &rt,
-            alloc,
-            &routed(),
-            &[&version],
-            &[&[6, 48, 9], &version, &end(counts)]
-        )?
-    );
+    let releases: [&[u32]; 3] = [&[6, 48, 9], &version, &end(counts)];
+    assert!(rt; replays(&rt, alloc, &routed(), &[&version], &releases)?);
     Ok(())
+}
+
+// The words of a header of form 2 with the ports 9 and 7 for stream 1.
+fn two_ports() -> [u32; 87] {
+    let mut words = [0; 87];
+    words[..83].copy_from_slice(&second_form());
+    words[83..].copy_from_slice(&[1, 0x0002_0009, 0x0007_0000, 0]);
+    words
 }
 
 #[test]
 fn a_run_goes_to_each_port_of_its_route(rt: HostRuntime) -> Result<(), Fail> {
     let alloc = rt.alloc();
-    let mut header = record_of(alloc, &second_form(), &[])?;
-    push_words(&mut header, &[1, 0x0002_0009, 0x0007_0000, 0])?;
-    let frames: [&[u32]; 4] = [
-        &context(START, 0),
-        &context(START + 1, 1),
-        &context(START + 3, 3),
-        &data_at_half(START + 1, 0),
-    ];
-    let behind = record_of(alloc, &[], &frames)?;
-    header.extend_from_slice(behind.as_slice())?;
+    let record = gap_record(alloc, &two_ports(), &third_context())?;
     let nine = raw_at_half(2, 1, START + 1);
     let mut seven = nine;
     seven[3] = 7;
-    let counts = Counts {
-        frames: 4,
-        raw: 1,
-        ..NONE
-    };
-    let wanted: [&[u32]; 3] = [&nine, &seven, &end(counts)];
-    assert!(rt; makes(&rt, alloc, header.as_slice(), Status::Done, &wanted)?);
+    let wanted: [&[u32]; 3] = [&nine, &seven, &end_of_raw(4, 0, 1)];
+    assert!(rt; makes(&rt, alloc, record.as_slice(), Status::Done, &wanted)?);
+    Ok(())
+}
 
-    // In form 2 a record with one port for each stream has the same releases.
-    let record = record_of(alloc, &routed(), &frames)?;
+#[test]
+fn a_migrated_record_has_the_same_releases(rt: HostRuntime) -> Result<(), Fail> {
+    let alloc = rt.alloc();
+    let record = gap_record(alloc, &routed(), &third_context())?;
     let migrated = run_line(&rt, alloc, &["migrate"], record.as_slice(), 4096, &[], &[])?;
-    let one: [&[u32]; 2] = [&nine, &end(counts)];
+    let one: [&[u32]; 2] = [&raw_at_half(2, 1, START + 1), &end_of_raw(4, 0, 1)];
     assert!(rt; makes(&rt, alloc, migrated.text.as_slice(), Status::Done, &one)?);
     Ok(())
 }

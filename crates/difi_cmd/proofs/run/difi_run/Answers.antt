@@ -16,7 +16,7 @@ returns-in-Migrate-clause-complete g c = λ line asks no_read no_write.
 pub returns-in-Replay-clause-want : goal.returns-in-Replay-clause-want
 returns-in-Replay-clause-want g c = λ short line asks.
     let same : line ≡ lines.Replay c.in-Replay.max_bytes = one_line c.args.words.now line c.in-Ok.line asks c.in-Ok.ensures.found ∙ c.in-Replay.is in
-    rw same (c.replay_run.ensures.outcome)
+    rw same (c.replay_run.ensures.replayed)
 
 pub returns-in-Replay-clause-complete : goal.returns-in-Replay-clause-complete
 returns-in-Replay-clause-complete g c = λ line asks no_read no_write.

@@ -5,7 +5,7 @@ use Rattle.replay_form.specs.Head.{IsHead}
 use Rattle.replay_form.specs.declared.record_head.RecordHead.{RecordHead}
 use Rattle.replay_form.proofs.HeadSaid.{spelled_by_values}
 use Rattle.replay_form.proofs.HeadSpellingLaws.{size_told}
-use Rattle.difi_cmd.specs.Migrated.{in_second_form}
+use Rattle.replay_form.specs.SecondForm.{in_second_form}
 use Rattle.difi_cmd.specs.Migrating.{Migrating}
 use Rattle.difi_cmd.proofs.migration.Migration.start.Goals as goal
 
@@ -14,8 +14,8 @@ front n most bytes rest h k = take-take n most (bytes ++ rest) h ∙ take-append
 
 pub returns : goal.returns
 returns c =
-    let head = c.second_form-migrated.result in
-    let s = spelled_by_values head c.second_form-migrated.ensures.valid in
+    let head = c.migrate_head_into-migrated.result in
+    let s = spelled_by_values head (c.migrate_head_into-migrated.ensures.valid c.requires.valid) in
     let n = c.encode_head-length.result in
     let into = c.encode_head-length.new.into in
     let again : take n into ≡ s.bytes = c.encode_head-length.ensures.again s.bytes s.fit s.says in
@@ -27,7 +27,7 @@ returns c =
       started = refl;
       owed = record {
         fit = subst AreBytes (sym same) s.fit;
-        says = subst (IsHead (in_second_form c.args.head.now)) (sym same) (subst (λ (h : RecordHead). IsHead h s.bytes) c.second_form-migrated.ensures.same s.says);
+        says = subst (IsHead (in_second_form c.args.head.now)) (sym same) (subst (λ (h : RecordHead). IsHead h s.bytes) c.migrate_head_into-migrated.ensures.same s.says);
       };
       frames = ap (λ (m : Migrating). m.frames) c.self.view_is;
       ended = ap (λ (m : Migrating). m.ended) c.self.view_is;

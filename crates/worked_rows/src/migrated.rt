@@ -1,7 +1,7 @@
-ghost use Rattle.std.specs.Prelude.{◌≤◌};
+//! `migrate`: the header in form 2, and the frames as they stand.
 
-use crate::{Status, difi_run};
-use difi_io::{MemSink, MemSource, NoGate};
+use crate::records::{read_fails, run_line, write_fails, writes};
+use difi_cmd::Status;
 use std::alloc::{AllocError, Global};
 use std::test::Fail;
 use std::thread::Threads;
@@ -12,13 +12,6 @@ const MIGRATED_ROUTE: [u32; 4] = [1, 0x0001_0009, 0, 0];
 
 // A route from stream 1 to the ports 9, 7, 300 and 2.
 const FOUR_PORTS: [u32; 4] = [1, 0x0004_0009, 0x0007_012C, 0x0002_0000];
-
-// What a run did: its status, and what the sink holds.
-#[derive(Drop)]
-struct Outcome {
-    status: Status,
-    text: Vec<u8>,
-}
 
 // The header of `routed` in form 2: 348 bytes.
 fn migrated(alloc: Global) -> Result<Vec<u8>, AllocError> {
@@ -35,31 +28,6 @@ fn push_frames(record: &mut Vec<u8>, alloc: Global) -> Result<(), AllocError> {
     record.extend_from_slice(&[0xFF, 0, 0x80])
 }
 
-// Runs a line over bytes that are read in pieces, and whose listed reads and writes fail.
-fn run<R: Threads + Sync>(
-    rt: &R,
-    alloc: Global,
-    line: &[&str],
-    bytes: &[u8],
-    piece: usize,
-    reads: &[u64],
-    writes: &[u64],
-) -> Result<Outcome, Fail>
-    requires { 1 ≤ piece }
-{
-    let mut words = Vec::new(alloc);
-    for word in line {
-        words.push(String::from_str(alloc, *word)?)?;
-    }
-    let mut source = MemSource::new(bytes.to_vec(alloc)?, piece, reads.to_vec(alloc)?);
-    let Ok(mut sink) = MemSink::new(alloc, 1 << 16, 1 << 12, writes.to_vec(alloc)?) else {
-        return Err(Fail::from("no memory"));
-    };
-    let status = difi_run(rt, alloc, &words, &mut source, &mut sink, &NoGate::new());
-    let text = sink.bytes().to_vec(alloc)?;
-    Ok(Outcome { status, text })
-}
-
 // Whether `migrate` makes this of bytes, however they are cut.
 fn makes<R: Threads + Sync>(
     rt: &R,
@@ -68,13 +36,7 @@ fn makes<R: Threads + Sync>(
     status: Status,
     text: &[u8],
 ) -> Result<bool, Fail> {
-    for piece in [1, 7, 4096] {
-        let outcome = run(rt, alloc, &["migrate"], bytes, piece, &[], &[])?;
-        if outcome.status != status || outcome.text.as_slice() != text {
-            return Ok(false);
-        }
-    }
-    Ok(true)
+    writes(rt, alloc, &["migrate"], bytes, status, text)
 }
 
 #[test]
@@ -164,17 +126,13 @@ fn a_failed_read_or_write_ends_it(rt: HostRuntime) -> Result<(), Fail> {
     let alloc = rt.alloc();
     let mut bytes = datagram(alloc, &routed())?;
     let text = migrated(alloc)?;
-    let line = ["migrate"];
     push_frames(&mut bytes, alloc)?;
-    let read = run(&rt, alloc, &line, bytes.as_slice(), 340, &[2], &[])?;
-    assert_eq!(rt; read.status, Status::ReadFault);
-    assert_eq!(rt; read.text.as_slice(), text.as_slice());
-    let first = run(&rt, alloc, &line, bytes.as_slice(), 340, &[1], &[])?;
-    assert_eq!(rt; first.status, Status::ReadFault);
-    assert_eq!(rt; first.text.as_slice(), b"".as_slice());
-    let written = run(&rt, alloc, &line, bytes.as_slice(), 340, &[], &[2])?;
-    assert_eq!(rt; written.status, Status::WriteFault);
-    assert_eq!(rt; written.text.as_slice(), text.as_slice());
+    let record = bytes.as_slice();
+    assert!(rt; read_fails(&rt, alloc, &["migrate"], record, 340, 1, b"")?);
+    assert!(rt; read_fails(&rt, alloc, &["migrate"], record, 340, 2, text.as_slice())?);
+    // The header takes two writes.
+    assert!(rt; write_fails(&rt, alloc, &["migrate"], record, 340, 1, b"")?);
+    assert!(rt; write_fails(&rt, alloc, &["migrate"], record, 340, 3, text.as_slice())?);
     Ok(())
 }
 
@@ -184,11 +142,11 @@ fn only_so_many_bytes_are_judged(rt: HostRuntime) -> Result<(), Fail> {
     let bytes = datagram(alloc, &routed())?;
     let text = migrated(alloc)?;
     let line = ["migrate", "--max-bytes", "339"];
-    let short = run(&rt, alloc, &line, bytes.as_slice(), 4096, &[], &[])?;
+    let short = run_line(&rt, alloc, &line, bytes.as_slice(), 4096, &[], &[])?;
     assert_eq!(rt; short.status, Status::TooLong);
     assert_eq!(rt; short.text.as_slice(), b"".as_slice());
     let line = ["migrate", "--max-bytes=340"];
-    let all = run(&rt, alloc, &line, bytes.as_slice(), 4096, &[], &[])?;
+    let all = run_line(&rt, alloc, &line, bytes.as_slice(), 4096, &[], &[])?;
     assert_eq!(rt; all.status, Status::Done);
     assert_eq!(rt; all.text.as_slice(), text.as_slice());
     Ok(())
@@ -204,7 +162,7 @@ fn other_words_are_no_options_of_it(rt: HostRuntime) -> Result<(), Fail> {
         ["migrate", "--stages=1"],
         ["migrate", "--max-bytes=0"],
     ] {
-        let outcome = run(&rt, alloc, &line, bytes.as_slice(), 4096, &[], &[])?;
+        let outcome = run_line(&rt, alloc, &line, bytes.as_slice(), 4096, &[], &[])?;
         assert_eq!(rt; outcome.status, Status::Usage);
         assert_eq!(rt; outcome.text.as_slice(), b"".as_slice());
     }
