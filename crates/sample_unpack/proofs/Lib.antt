@@ -2,5 +2,8 @@ pub mod Bits
 pub mod Signed
 pub mod Items
 pub mod Samples
+pub mod Spread
+pub mod Extended
 pub mod Packed
 pub mod RoundTrip
+pub mod Widening

@@ -22,6 +22,25 @@ sample_of-take w bits =
     let sample : ℤ → ℤ → Sample = λ i q. record { i = i; q = q } in
     ap₂ sample (ap signed_number_of first) (ap signed_number_of second)
 
+-- two samples read the bits of their four items alone
+pub two_samples-take : (w : ℕ) (bits : List ℕ) → samples_from w (take (4 * w) bits) 0 2 ≡ samples_from w bits 0 2
+two_samples-take w bits =
+    let twice : 4 * w ≡ 2 * w + 2 * w = omega arith in
+    let none : 2 * w * 0 ≡ 0 = omega arith in
+    let one : 2 * w * 1 ≡ 2 * w = omega arith in
+    let first : sample_at w (take (4 * w) bits) 0 ≡ sample_at w bits 0 =
+    ap (λ n. sample_of w (drop n (take (4 * w) bits))) none
+    ∙ sym (sample_of-take w (take (4 * w) bits))
+    ∙ ap (sample_of w) (take-take (2 * w) (4 * w) bits (omega arith))
+    ∙ sample_of-take w bits
+    ∙ ap (λ n. sample_of w (drop n bits)) (sym none) in
+    let second : sample_at w (take (4 * w) bits) 1 ≡ sample_at w bits 1 =
+    ap₂ (λ (n m : ℕ). sample_of w (drop n (take m bits))) one twice
+    ∙ ap (sample_of w) (drop-take (2 * w) (2 * w) bits)
+    ∙ sample_of-take w (drop (2 * w) bits)
+    ∙ ap (λ n. sample_of w (drop n bits)) (sym one) in
+    ap₂ (λ (a b : Sample). a ∷ b ∷ []) first second
+
 -- a sample whose two items are whole bytes
 pub sample_in_bytes : (w n at : ℕ) (payload : List ℕ) → 2 * w ≡ 8 * n → ((k : ℕ) → get_or payload k 0 < 256) → at + n ≤ length payload → sample_of w (bits_of (2 * w) (big_from 0 n (drop at payload))) ≡ sample_of w (drop (8 * at) (bits_of_bytes payload))
 sample_in_bytes w n at payload e h l =
@@ -40,7 +59,7 @@ sample_in_window w bits window items start offset place h l p read cut =
     ∙ ap (λ n. sample_of w (drop n bits)) p
 
 -- a byte as a signed number
-signed_byte : (b : ℕ) → b < 256 → to_z w8 b ≡ signed_number_of (bits_of 8 b)
+pub signed_byte : (b : ℕ) → b < 256 → to_z w8 b ≡ signed_number_of (bits_of 8 b)
 signed_byte b h =
     let value : to_z w8 b ≡ pos (b % 128) -ℤ pos (b / 128 % 2 * 128) = grind (arith, ints) in
     value ∙ sym (signed_number_of-bits_of 7 b)
@@ -136,13 +155,13 @@ written_four into index a b c d l =
 -- ---- the parts in which the code reads
 
 -- the end of a list is written over
-pub written_rest : (start : ℕ) (xs ys : List Sample) → start ≤ length xs → put_mid start (length xs - start) xs ys ≡ take start xs ++ ys
+pub written_rest : {A : Type 0} → (start : ℕ) (xs ys : List A) → start ≤ length xs → put_mid start (length xs - start) xs ys ≡ take start xs ++ ys
 written_rest start xs ys l =
     ap (λ zs. take start xs ++ (ys ++ zs)) (drop_all (length xs - start) (drop start xs) (omega (arith, length-drop start xs)))
     ∙ ap (λ zs. take start xs ++ zs) (append-nil ys)
 
 -- how many places the end of a list has
-pub length_rest : (start : ℕ) (xs : List Sample) → length (take (length xs - start) (drop start xs)) ≡ length xs - start
+pub length_rest : {A : Type 0} → (start : ℕ) (xs : List A) → length (take (length xs - start) (drop start xs)) ≡ length xs - start
 length_rest start xs = ap length (take_rest xs start) ∙ length-drop start xs
 
 -- where the first four begin, if any sample is left for them

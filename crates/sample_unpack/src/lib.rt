@@ -12,6 +12,10 @@ mod sample;
 #[cfg(test)]
 mod tests;
 mod unpack;
+mod wide;
+mod widen;
+#[cfg(test)]
+mod widen_tests;
 mod window;
 
 pub use crate::count::count_of;
@@ -19,3 +23,4 @@ pub use crate::laws::{packing_unpacked, unpacking_packed};
 pub use crate::pack::pack_into;
 pub use crate::sample::Sample;
 pub use crate::unpack::unpack_into;
+pub use crate::widen::widen_into;

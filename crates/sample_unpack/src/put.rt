@@ -56,3 +56,12 @@ pub(crate) fn put_half(into: &mut [u8], at: usize, half: u16)
 {
     BigEndian::write_u16(&mut into[at..], half);
 }
+
+/// Writes two words at `at`, behind what stands there.
+#[inline]
+pub(crate) fn put_double(into: &mut [u8], at: usize, double: u64)
+    requires { at + 8 ≤ length into.old }
+    ensures { bits_of_bytes (take (at + 8) into.new) ≡ bits_of_bytes (take at into.old) ++ bits_of 64 double }
+{
+    BigEndian::write_u64(&mut into[at..], double);
+}

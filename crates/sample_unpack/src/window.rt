@@ -42,6 +42,18 @@ fn items_in(window: u64, offset: u32, width: u32) -> u32
     ((window << offset) >> (64 - 2 * width)) as u32
 }
 
+/// The four items, of `width` bits each, from bit `offset` of a window on.
+#[inline(always)]
+pub(crate) fn four_in(window: u64, offset: u32, width: u32) -> u64
+    requires some { 1 ≤ width }
+    requires most { width ≤ 16 }
+    requires within { offset + 4 * width ≤ 64 }
+    ensures fits { result < 2 ^ (4 * width) }
+    ensures items { bits_of (4 * width) result ≡ take (4 * width) (drop offset (bits_of 64 window)) }
+{
+    (window << offset) >> (64 - 4 * width)
+}
+
 /// The sample from bit `offset` of the byte at `at` on.
 #[inline(always)]
 pub(crate) fn sample_at(payload: &[u8], at: usize, offset: u32, width: u32) -> Sample
