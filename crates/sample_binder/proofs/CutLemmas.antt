@@ -1,13 +1,16 @@
--- Up to where the mark of a sample stays.
+-- Up to where the mark of a sample stays, and its label.
 use Rattle.std.proofs.Common.{◌≡◌, ℕ, ◌<◌, ◌≤◌, nat_lt, Bool, true, false, cond, refl, List, [], ◌∷◌, Option, Some, None, IfSome, subst, sym, ap, ◌∙◌, inl, inr, arith}
 use Rattle.std.proofs.lemmas.Bool.Decides.{nat_tests}
 use Rattle.std.proofs.lemmas.Bool.{cases_lt}
 use Rattle.vrt_time.specs.Time.{TimeStamp, moment_of, capture_at}
 use Rattle.context_timeline.specs.declared.timed_context.TimedContext.{TimedContext}
 use Rattle.context_timeline.specs.Marks.{next_stamp}
+use Rattle.sample_binder.specs.declared.label.Label.{Label}
 use Rattle.sample_binder.specs.declared.sampled.Sampled.{Sampled}
+use Rattle.sample_binder.specs.Runs.{same_label}
 use Rattle.sample_binder.specs.Samples.{rate_in}
-use Rattle.sample_binder.specs.Stretches.{IsPassedBy}
+use Rattle.sample_binder.specs.Stretches.{IsPassedBy, IsStretch, GoesOn}
+use Rattle.sample_binder.proofs.LabelLemmas.{same_self}
 
 lt_told : (a b : ℕ) → nat_lt a b ≡ true → a < b
 lt_told a b e = grind (arith, nat_tests)
@@ -47,3 +50,17 @@ pub after_sample : (kept : List TimedContext) (samples : Sampled) (sample at rat
 after_sample kept samples sample at rate until e f g =
     subst (λ (o : Option TimeStamp). IfSome o (λ u. capture_at samples.stamp sample (rate_in samples.fields) < moment_of u)) (sym e)
     (subst (λ (t : ℕ). IfSome (next_stamp kept at) (λ u. t < moment_of u)) (f ∙ ap (λ r. capture_at samples.stamp sample r) g) (next_after kept at))
+
+-- samples of one label, and those that go on with it, are a stretch
+pub stretch_with : (labels : ℕ → Label) (number first from end : ℕ) (label : Label) → first < from → ((m : ℕ) → first ≤ m → m < from → labels m ≡ label)
+    → GoesOn labels number from label end → IsStretch labels number first label end
+stretch_with labels number first from end label some same on = record {
+  label_told = sym (same first (omega arith) some);
+  some = omega (arith, some, on.later);
+  within = on.within;
+  alike = λ m le lt. elim (cases_lt m from) [
+    | inl before ↦ ap (same_label label) (same m le before) ∙ same_self label
+    | inr behind ↦ on.alike m behind lt
+  ];
+  ends = on.ends;
+}

@@ -1,33 +1,38 @@
 -- What one more output makes of a queue.
 use Rattle.std.proofs.Common.{◌≡◌, ◌≢◌, ℕ, suc, zero, ◌+◌, ◌-◌, ◌<◌, ◌≤◌, ◌||◌, ◌==◌, nat_lt, Bool, true, false, cond, List, [], ◌∷◌, ◌++◌, length, drop, map, slice_get, Option, Some, None, IfSome, IfNone, OnSome, IsTrue, ◌↔◌, is_some, refl, sym, ap, ◌∙◌, subst, inl, inr, arith, length-drop}
-use Rattle.vrt_time.specs.Time.{moment_of}
+use Rattle.vrt_time.specs.Time.{moment_of, capture_at}
 use Rattle.context_timeline.specs.declared.timed_context.TimedContext.{TimedContext}
 use Rattle.context_timeline.specs.declared.mark.Mark.{Mark}
 use Rattle.context_timeline.specs.declared.mark.Mark.TheVariants as mark
-use Rattle.context_timeline.specs.Line.{Line, horizon_of}
-use Rattle.context_timeline.specs.Marks.{mark_in, mark_below, mark_between, last_not_after, is_below, healed}
+use Rattle.context_timeline.specs.Line.{Line, IsLine, horizon_of}
+use Rattle.context_timeline.specs.Marks.{mark_in, mark_below, mark_between, last_not_after, is_below, healed, next_stamp}
 use Rattle.sample_binder.specs.declared.leaving.Leaving.{Leaving}
+use Rattle.sample_binder.specs.declared.leaving.Leaving.TheVariants as leaving
 use Rattle.vrt_fields.specs.declared.limits.Limits.{Limits}
+use Rattle.sample_binder.specs.declared.out.Given.{Given}
 use Rattle.sample_binder.specs.declared.out.Out.{Out}
 use Rattle.sample_binder.specs.declared.out.Out.TheVariants as out
 use Rattle.sample_binder.specs.declared.pending.Pending.{Pending}
 use Rattle.sample_binder.specs.declared.reason.Reason.{Reason}
 use Rattle.sample_binder.specs.declared.run.Run.{Run}
+use Rattle.sample_binder.specs.declared.sampled.Sampled.{Sampled}
 use Rattle.sample_binder.specs.declared.shape.Shape.{Shape}
 use Rattle.sample_binder.proofs.Cases.{tested}
 use Rattle.sample_binder.specs.Due.{may_leave, has_case, has_case_after, is_known, is_known_by}
 use Rattle.sample_binder.proofs.DueLaws.{may_leave-none, may_leave-next}
 use Rattle.sample_binder.specs.Events.{Event, packets_of, has_ended, line_after}
-use Rattle.sample_binder.specs.Left.{runs_left, runs_left_of, IsLeaving, leaving_bound, leaving_by}
+use Rattle.sample_binder.specs.GivenOut.{out_with}
+use Rattle.sample_binder.specs.Left.{runs_left, runs_left_of, IsCut, IsLeaving, leaving_bound, leaving_by}
 use Rattle.sample_binder.specs.Outputs.{open_reason, packet_and_runs, outputs}
 use Rattle.sample_binder.proofs.OutputLaws.{first_of, more_wait}
 use Rattle.sample_binder.specs.Queue.{State, owed, is_first_due, queue_owes, first_decided, StandsFor, IsState, AreSound}
 use Rattle.sample_binder.specs.Runs.{runs_bound, runs_by, runs_of, cut_from, run_at, label_at}
-use Rattle.sample_binder.specs.Samples.{size_in, number_of}
+use Rattle.sample_binder.specs.Samples.{rate_in, size_in, number_of}
 use Rattle.sample_binder.specs.Sound.{HasSampling}
 use Rattle.sample_binder.specs.Steps.{GivesPacket}
 use Rattle.sample_binder.proofs.SampleLemmas.{number_positive}
 use Rattle.sample_binder.proofs.StateLemmas.{case_last, leaves_some, map_empty, append_empty}
+use Rattle.sample_binder.proofs.WholeLemmas.{whole_is_cut}
 
 -- ---- a mark that is bound tells the fields of a kept context
 
@@ -65,30 +70,50 @@ mark_sound line t h = chosen_sound (is_below t (horizon_of line)) (mark_below li
 
 -- ---- how a packet leaves is by its runs
 
-bound_runs : (line : Line) (why : Reason) (shape : Shape) (fields : List ℕ) (o : Option ℕ) → runs_left line why (leaving_bound shape fields o) ≡ runs_bound line why shape fields o
-bound_runs line why shape fields None = refl
-bound_runs line why shape fields (Some number) =
-    let all : number - 0 ≡ number = omega arith in
-    ap (λ n. map (run_at line why shape.stamp fields) (cut_from (label_at line why shape.stamp fields) number 0 n)) all
+-- in one run, or cut
+chosen_runs : (line : Line) (why : Reason) (samples : Sampled) (whole : Bool) → (whole ≡ true → runs_left line why (leaving.Whole samples) ≡ runs_left line why (leaving.Cut samples 0))
+    → runs_left line why (cond whole (leaving.Whole samples) (leaving.Cut samples 0)) ≡ runs_left line why (leaving.Cut samples 0)
+chosen_runs line why samples true h = h refl
+chosen_runs line why samples false h = refl
 
-by_runs : (line : Line) (why : Reason) (shape : Shape) (m : Mark) → runs_left line why (leaving_by shape why m) ≡ runs_by line why shape m
-by_runs line why shape mark.Open = refl
-by_runs line why shape mark.BeforeFirst = refl
-by_runs line why shape mark.TimelineFull = refl
-by_runs line why shape (mark.Lost lost) = refl
-by_runs line why shape (mark.Bound place fields) = bound_runs line why shape fields (number_of shape (size_in fields))
+chosen_leaves : (line : Line) (why : Reason) (samples : Sampled) (whole : Bool) → IsCut line why samples 0 → IsLeaving line why (cond whole (leaving.Whole samples) (leaving.Cut samples 0))
+chosen_leaves line why samples true h = tt
+chosen_leaves line why samples false h = h
 
-bound_leaves : (line : Line) (why : Reason) (shape : Shape) (fields : List ℕ) (o : Option ℕ) → HasSampling fields → ((n : ℕ) → o ≡ Some n → 0 < n) → IsLeaving line why (leaving_bound shape fields o)
-bound_leaves line why shape fields None s h = tt
-bound_leaves line why shape fields (Some number) s h = record { sampling = s; there = h number refl; start = refl }
+module _ (line : Line) (why : Reason) (shape : Shape) (fields : List ℕ) (sampling : HasSampling fields) where
+  bound_runs : (place : ℕ) (o : Option ℕ) → ((n : ℕ) → o ≡ Some n → 0 < n) → IsLine line → mark_in line (moment_of shape.stamp) ≡ mark.Bound place fields
+      → runs_left line why (leaving_bound line shape fields o) ≡ runs_bound line why shape fields o
+  bound_runs place None some is_line here = refl
+  bound_runs place (Some number) some is_line here =
+      let samples : Sampled = record { stamp = shape.stamp; fields = fields; number = number } in
+      let all : number - 0 ≡ number = omega arith in
+      chosen_runs line why samples (is_below (capture_at shape.stamp (number - 1) (rate_in fields)) (next_stamp line.kept (moment_of shape.stamp)))
+      (λ whole. whole_is_cut line why samples place is_line sampling (some number refl) here whole)
+      ∙ ap (λ n. map (run_at line why shape.stamp fields) (cut_from (label_at line why shape.stamp fields) number 0 n)) all
 
-by_leaves : (line : Line) (why : Reason) (shape : Shape) (m : Mark) → OfBound m → IsLeaving line why (leaving_by shape why m)
+  bound_leaves : (o : Option ℕ) → ((n : ℕ) → o ≡ Some n → 0 < n) → IsLeaving line why (leaving_bound line shape fields o)
+  bound_leaves None some = tt
+  bound_leaves (Some number) some =
+      let samples : Sampled = record { stamp = shape.stamp; fields = fields; number = number } in
+      chosen_leaves line why samples (is_below (capture_at shape.stamp (number - 1) (rate_in fields)) (next_stamp line.kept (moment_of shape.stamp)))
+      (record { sampling = sampling; there = some number refl; start = refl })
+
+by_runs : (line : Line) (why : Reason) (shape : Shape) (m : Mark) → OfBound m → IsLine line → mark_in line (moment_of shape.stamp) ≡ m
+    → runs_left line why (leaving_by line shape why m) ≡ runs_by line why shape m
+by_runs line why shape mark.Open h is_line here = refl
+by_runs line why shape mark.BeforeFirst h is_line here = refl
+by_runs line why shape mark.TimelineFull h is_line here = refl
+by_runs line why shape (mark.Lost lost) h is_line here = refl
+by_runs line why shape (mark.Bound place fields) h is_line here =
+    bound_runs line why shape fields h place (number_of shape (size_in fields)) (λ n e. number_positive shape (size_in fields) n (omega (arith, h.some_bits)) e) is_line here
+
+by_leaves : (line : Line) (why : Reason) (shape : Shape) (m : Mark) → OfBound m → IsLeaving line why (leaving_by line shape why m)
 by_leaves line why shape mark.Open h = tt
 by_leaves line why shape mark.BeforeFirst h = tt
 by_leaves line why shape mark.TimelineFull h = tt
 by_leaves line why shape (mark.Lost lost) h = tt
 by_leaves line why shape (mark.Bound place fields) h =
-    bound_leaves line why shape fields (number_of shape (size_in fields)) h (λ n e. number_positive shape (size_in fields) n (omega (arith, h.some_bits)) e)
+    bound_leaves line why shape fields h (number_of shape (size_in fields)) (λ n e. number_positive shape (size_in fields) n (omega (arith, h.some_bits)) e)
 
 -- ---- the first packet, where it leaves
 
@@ -109,15 +134,16 @@ module _ (pending : ℕ) (line : Line) (ended : Bool) where
   why = open_reason ended
 
   -- the first leaves by its runs
-  pub first_leaves : (packet : Pending) (rest : List Pending) (now : Leaving) → AreSound line.kept → first_decided pending line ended (packet ∷ rest) ≡ Some now
+  pub first_leaves : (packet : Pending) (rest : List Pending) (now : Leaving) → IsLine line → AreSound line.kept → first_decided pending line ended (packet ∷ rest) ≡ Some now
       → (is_first_due pending line ended packet.shape (length (packet ∷ rest)) ≡ true) × (runs_left line why now ≡ runs_of line why packet.shape) × IsLeaving line why now
-  first_leaves packet rest now sound e =
+  first_leaves packet rest now is_line sound e =
       let m = mark_in line (moment_of packet.shape.stamp) in
       let full = nat_lt pending (length (packet ∷ rest)) in
-      let h = taken_by (is_known_by line packet.shape m || (full || ended)) (leaving_by packet.shape why m) now e in (
+      let h = taken_by (is_known_by line packet.shape m || (full || ended)) (leaving_by line packet.shape why m) now e in
+      let of_bound = mark_sound line (moment_of packet.shape.stamp) sound in (
         sym (same_test (is_known_by line packet.shape m) full ended) ∙ h.0,
-        sym (ap (runs_left line why) h.1) ∙ by_runs line why packet.shape m,
-        subst (IsLeaving line why) h.1 (by_leaves line why packet.shape m (mark_sound line (moment_of packet.shape.stamp) sound)),
+        sym (ap (runs_left line why) h.1) ∙ by_runs line why packet.shape m of_bound is_line refl,
+        subst (IsLeaving line why) h.1 (by_leaves line why packet.shape m of_bound),
       )
 
   -- or waits
@@ -126,7 +152,7 @@ module _ (pending : ℕ) (line : Line) (ended : Bool) where
   none_due (packet ∷ rest) e =
       let m = mark_in line (moment_of packet.shape.stamp) in
       let full = nat_lt pending (length (packet ∷ rest)) in
-      let off = not_taken (is_known_by line packet.shape m || (full || ended)) (leaving_by packet.shape why m) e in
+      let off = not_taken (is_known_by line packet.shape m || (full || ended)) (leaving_by line packet.shape why m) e in
       ap (λ b. cond b (packet_and_runs line why packet ++ queue_owes pending line ended rest) []) (sym (same_test (is_known_by line packet.shape m) full ended) ∙ off)
 
 abbrev pub with_leaving : State → Option Leaving → State
@@ -142,14 +168,14 @@ owed-run old given rest e =
     ap (λ (runs : List Run). map out.Run runs ++ queue_owes old.pending old.line old.ended old.queue) e
 
 -- and behind a packet
-pub owed-packet : (old : State) (after : List Pending) (leaving : Option Leaving) (given : Out) → AreSound old.line.kept → old.leaving ≡ None
+pub owed-packet : (old : State) (after : List Pending) (leaving : Option Leaving) (given : Out) → IsState old → old.leaving ≡ None
     → GivesPacket old.pending old.line old.ended old.queue after leaving given → owed old ≡ given ∷ owed (with_queue old after leaving)
-owed-packet old after leaving given sound none h =
+owed-packet old after leaving given state none h =
     let reason = open_reason old.ended in
     let behind = queue_owes old.pending old.line old.ended after in
     let decided : first_decided old.pending old.line old.ended (h.packet ∷ after) ≡ Some h.now =
     ap (first_decided old.pending old.line old.ended) (sym h.first) ∙ h.decided ∙ h.leaves in
-    let f = first_leaves old.pending old.line old.ended h.packet after h.now sound decided in
+    let f = first_leaves old.pending old.line old.ended h.packet after h.now state.is_line state.sound decided in
     ap (λ (o : Option Leaving). map out.Run (runs_left_of old.line reason o) ++ queue_owes old.pending old.line old.ended old.queue) none
     ∙ ap (queue_owes old.pending old.line old.ended) h.first
     ∙ ap (λ b. cond b (packet_and_runs old.line reason h.packet ++ behind) []) f.0
@@ -211,14 +237,14 @@ module _ (old : State) (limits : Limits) (events : List Event) (taken : ℕ) (h 
       let due = sym (ap (λ k. may_leave (has_case_after limits events) k h.left) e) ∙ h.are_due in
       may_leave-next (has_case_after limits events) m h.left h.since before due ∙ ap (λ b. cond b (Some m) None) on_case ∙ ap Some (sym one)
 
-  pub stands-packet : (after : List Pending) (leaving : Option Leaving) (given : Out) → AreSound old.line.kept → owed old ≡ given ∷ owed (with_queue old after leaving)
+  pub stands-packet : (after : List Pending) (leaving : Option Leaving) (given : Out) → IsState old → owed old ≡ given ∷ owed (with_queue old after leaving)
       → GivesPacket old.pending old.line old.ended old.queue after leaving given → StandsFor (with_queue old after leaving) limits events (taken + 1)
-  stands-packet after leaving given sound e g =
+  stands-packet after leaving given state e g =
       let n = length events in
       let d = drop_next taken (outputs limits events) given (owed (with_queue old after leaving)) (h.rest ∙ e) in
       let decided : first_decided old.pending old.line old.ended (g.packet ∷ after) ≡ Some g.now =
       ap (first_decided old.pending old.line old.ended) (sym g.first) ∙ g.decided ∙ g.leaves in
-      let f = first_leaves old.pending old.line old.ended g.packet after g.now sound decided in
+      let f = first_leaves old.pending old.line old.ended g.packet after g.now state.is_line state.sound decided in
       let here = first_of h.left (packets_of events) g.packet after (sym h.queue ∙ g.first) in
       let one : suc (h.left + 1) ≡ h.left + 1 + 1 = omega arith in
       let next : h.left + 1 ≡ suc h.left = omega arith in
@@ -243,9 +269,10 @@ pub IsState-packet : (old : State) (after : List Pending) (leaving : Option Leav
 IsState-packet old after leaving given h g =
     let decided : first_decided old.pending old.line old.ended (g.packet ∷ after) ≡ Some g.now =
     ap (first_decided old.pending old.line old.ended) (sym g.first) ∙ g.decided ∙ g.leaves in
-    let f = first_leaves old.pending old.line old.ended g.packet after g.now h.sound decided in
+    let f = first_leaves old.pending old.line old.ended g.packet after g.now h.is_line h.sound decided in
     record {
       room = omega (arith, h.room, ap length g.first);
+      is_line = h.is_line;
       sound = h.sound;
       shapes = record { each = λ k p e. h.shapes.each (suc k) p (ap (λ (q : List Pending). slice_get q (suc k)) g.first ∙ e) };
       leaving = subst (λ (o : Option Leaving). IfSome o (IsLeaving old.line (open_reason old.ended))) (sym g.leaves) f.2;
@@ -261,15 +288,15 @@ owes-leaving old now h e f =
     owes_run old.line (open_reason old.ended) now (queue_owes old.pending old.line old.ended old.queue) leaves
     (sym (ap (λ (o : Option Leaving). map out.Run (runs_left_of old.line (open_reason old.ended) o) ++ queue_owes old.pending old.line old.ended old.queue) e) ∙ f)
 
-first_owes : (pending : ℕ) (line : Line) (ended : Bool) (queue : List Pending) (now : Leaving) → AreSound line.kept → first_decided pending line ended queue ≡ Some now → queue_owes pending line ended queue ≢ []
-first_owes pending line ended [] now s e f = absurd (cc)
-first_owes pending line ended (packet ∷ rest) now s e f =
-    let on = (first_leaves pending line ended packet rest now s e).0 in
+first_owes : (pending : ℕ) (line : Line) (ended : Bool) (queue : List Pending) (now : Leaving) → IsLine line → AreSound line.kept → first_decided pending line ended queue ≡ Some now → queue_owes pending line ended queue ≢ []
+first_owes pending line ended [] now is_line s e f = absurd (cc)
+first_owes pending line ended (packet ∷ rest) now is_line s e f =
+    let on = (first_leaves pending line ended packet rest now is_line s e).0 in
     absurd (cc (sym (ap (λ b. cond b (packet_and_runs line (open_reason ended) packet ++ queue_owes pending line ended rest) []) on) ∙ f))
 
 pub owes-first : (old : State) (now : Leaving) → IsState old → first_decided old.pending old.line old.ended old.queue ≡ Some now → owed old ≢ []
 owes-first old now h e f =
-    first_owes old.pending old.line old.ended old.queue now h.sound e (append_empty (map out.Run (runs_left_of old.line (open_reason old.ended) old.leaving)) (queue_owes old.pending old.line old.ended old.queue) f).1
+    first_owes old.pending old.line old.ended old.queue now h.is_line h.sound e (append_empty (map out.Run (runs_left_of old.line (open_reason old.ended) old.leaving)) (queue_owes old.pending old.line old.ended old.queue) f).1
 
 pub owes-nothing : (old : State) → old.leaving ≡ None → first_decided old.pending old.line old.ended old.queue ≡ None → owed old ≡ []
 owes-nothing old e f =
@@ -278,12 +305,16 @@ owes-nothing old e f =
 
 -- ---- with the answer that a packet leaves, or none does
 
-given-packet : (old : State) (after : List Pending) (leaving : Option Leaving) (result : Option Out) → AreSound old.line.kept → old.leaving ≡ None
+pub none_with : (P : Type 0) (o : Option Given) (run : Run) → IfNone o P → IfNone (out_with o run) P
+none_with P None run h = h
+none_with P (Some given) run h = tt
+
+given-packet : (old : State) (after : List Pending) (leaving : Option Leaving) (result : Option Out) → IsState old → old.leaving ≡ None
     → IfSome result (GivesPacket old.pending old.line old.ended old.queue after leaving) → IfSome result (λ given. owed old ≡ given ∷ owed (with_queue old after leaving))
 given-packet old after leaving None s e h = tt
 given-packet old after leaving (Some given) s e h = owed-packet old after leaving given s e h
 
-history-packet : (old : State) (after : List Pending) (leaving : Option Leaving) (result : Option Out) → AreSound old.line.kept → old.leaving ≡ None
+history-packet : (old : State) (after : List Pending) (leaving : Option Leaving) (result : Option Out) → IsState old → old.leaving ≡ None
     → IfSome result (GivesPacket old.pending old.line old.ended old.queue after leaving) → (limits : Limits) (events : List Event) (taken : ℕ) → StandsFor old limits events taken
     → OnSome result (StandsFor (with_queue old after leaving) limits events (taken + 1))
 history-packet old after leaving None s e h limits events taken stands = tt
@@ -296,6 +327,7 @@ state-packet : (old : State) (after : List Pending) (leaving : Option Leaving) (
 state-packet old after leaving (Some given) s h e f = IsState-packet old after leaving given s h
 state-packet old after leaving None s h e f = record {
   room = omega (arith, s.room, ap length e);
+  is_line = s.is_line;
   sound = s.sound;
   shapes = record { each = λ k p g. s.shapes.each k p (sym (ap (λ (q : List Pending). slice_get q k) e) ∙ g) };
   leaving = subst (λ (o : Option Leaving). IfSome o (IsLeaving old.line (open_reason old.ended))) (sym f) tt;
@@ -310,12 +342,12 @@ pub next-packet : (old : State) (after : List Pending) (leaving : Option Leaving
     → IfSome result (GivesPacket old.pending old.line old.ended old.queue after leaving) → IfNone result (after ≡ old.queue) → IfNone result (leaving ≡ None)
     → IsNext old after leaving result
 next-packet old after leaving result s e h f g = record {
-  given = given-packet old after leaving result s.sound e h;
-  history = history-packet old after leaving result s.sound e h;
+  given = given-packet old after leaving result s e h;
+  history = history-packet old after leaving result s e h;
   is_state = state-packet old after leaving result s h f g;
 }
 
-some_told : (o : Option Leaving) → is_some o ≡ true → (now : Leaving) × (o ≡ Some now)
+pub some_told : (o : Option Leaving) → is_some o ≡ true → (now : Leaving) × (o ≡ Some now)
 some_told None e = absurd (cc)
 some_told (Some now) e = (now, refl)
 

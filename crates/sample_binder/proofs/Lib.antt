@@ -8,6 +8,7 @@ pub mod SampleLemmas
 pub mod ClockLemmas
 pub mod CutLemmas
 pub mod RunLemmas
+pub mod WholeLemmas
 pub mod StateLemmas
 pub mod GiveLemmas
 pub mod ArrivalLemmas

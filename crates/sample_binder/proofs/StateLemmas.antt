@@ -1,14 +1,15 @@
 -- What one more event, and one more output, make of a queue.
-use Rattle.std.proofs.Common.{◌≡◌, ◌≢◌, ℕ, suc, zero, ◌+◌, ◌-◌, ◌<◌, ◌≤◌, ◌||◌, nat_lt, Bool, true, false, cond, List, [], ◌∷◌, ◌++◌, length, drop, map, get_or, slice_get, Option, Some, None, IfSome, refl, sym, ap, ◌∙◌, subst, arith, length-append, length-drop}
+use Rattle.std.proofs.Common.{◌≡◌, ◌≢◌, ℕ, suc, zero, ◌+◌, ◌-◌, ◌<◌, ◌≤◌, ◌||◌, ◌==◌, not, nat_lt, Bool, true, false, cond, List, [], ◌∷◌, ◌++◌, length, drop, map, get_or, slice_get, Option, Some, None, IfSome, refl, sym, ap, ◌∙◌, subst, arith, length-append, length-drop}
 use Rattle.std.proofs.lemmas.Bool.Decides.{nat_tests}
 use Rattle.std.proofs.lemmas.List.{append-nil, take_all, drop-append-le, get_or-drop}
 use Rattle.std.proofs.Math.Seq.{drop-append_seam}
 use Rattle.vrt_words.specs.Words.{bits}
+use Rattle.vrt_time.specs.Time.{moment_of}
 use Rattle.difi_context.specs.declared.context.ContextRec.{ContextRec}
 use Rattle.difi_context.specs.Context.{IsInGrammar}
 use Rattle.context_timeline.specs.declared.timed_context.TimedContext.{TimedContext}
-use Rattle.context_timeline.specs.Line.{Line, line_of, with_context}
-use Rattle.context_timeline.proofs.LineLaws.{line_of-push}
+use Rattle.context_timeline.specs.Line.{Line, line_of, with_context, horizon_of}
+use Rattle.context_timeline.proofs.LineLaws.{line_of-push, IsLine-with_context}
 use Rattle.sample_binder.specs.declared.label.Label.{Label}
 use Rattle.sample_binder.specs.declared.leaving.Leaving.{Leaving}
 use Rattle.sample_binder.specs.declared.leaving.Leaving.TheVariants as leaving
@@ -20,9 +21,9 @@ use Rattle.sample_binder.specs.Due.{may_leave, has_case, has_case_after, is_know
 use Rattle.sample_binder.proofs.DueLaws.{may_leave-more, may_leave-next}
 use Rattle.sample_binder.specs.Events.{Event, ContextEvent, DataEvent, EndEvent, contexts_of, packets_of, has_ended, line_after}
 use Rattle.sample_binder.specs.Left.{runs_left, runs_left_of, IsLeaving}
-use Rattle.sample_binder.specs.Outputs.{open_reason, outputs}
+use Rattle.sample_binder.specs.Outputs.{open_reason, outputs, packet_and_runs}
 use Rattle.sample_binder.proofs.OutputLaws.{first_of, more_wait, outputs-more, old_when, new_when, long}
-use Rattle.sample_binder.specs.Queue.{State, owed, is_first_due, queue_owes, StandsFor, IsState, AreSound, IsShape}
+use Rattle.sample_binder.specs.Queue.{State, owed, is_first_due, queue_owes, FirstWaits, StandsFor, IsState, AreSound, IsShape}
 use Rattle.sample_binder.specs.Sound.{HasSampling}
 use Rattle.sample_binder.specs.Runs.{cut_from, starts, label_at, run_at, runs_of}
 
@@ -64,6 +65,7 @@ cut_some labels number first (suc n) e lt f =
 -- what leaves has a run
 pub leaves_some : (line : Line) (why : Reason) (l : Leaving) → IsLeaving line why l → runs_left line why l ≢ []
 leaves_some line why (leaving.Raw reason stamp pad) h e = absurd (cc)
+leaves_some line why (leaving.Whole samples) h e = absurd (cc)
 leaves_some line why (leaving.Cut samples first) h e =
     cut_some (label_at line why samples.stamp samples.fields) samples.number first (samples.number - first) h.start (omega (arith, h.there))
     (map_empty (run_at line why samples.stamp samples.fields) (cut_from (label_at line why samples.stamp samples.fields) samples.number first (samples.number - first)) e)
@@ -99,6 +101,35 @@ few_in pending line ended [] e = omega arith
 few_in pending line ended (packet ∷ rest) e =
     let off = first_waits pending line ended packet rest e in
     not_lt pending (length (packet ∷ rest)) (few_wait (is_known line packet.shape) (nat_lt pending (length (packet ∷ rest))) ended off)
+
+unknown : (known full ended : Bool) → (known || full || ended) ≡ false → known ≡ false
+unknown known full ended e = grind arith
+
+-- where nothing is owed, the first stays the first behind one more, and needs another context
+pub first_held : (pending : ℕ) (line : Line) (ended : Bool) (queue : List Pending) (packet : Pending) → queue_owes pending line ended queue ≡ [] → queue ≢ [] → FirstWaits line (queue ++ packet ∷ [])
+first_held pending line ended [] packet e some = absurd (some refl)
+first_held pending line ended (first ∷ rest) packet e some =
+    unknown (is_known line first.shape) (nat_lt pending (length (first ∷ rest))) ended (first_waits pending line ended first rest e)
+
+-- a queue that is not told to be empty is not
+pub held_some : (empty : Bool) (n : ℕ) (queue : List Pending) → empty ≡ (n == 0) → n ≡ length queue → not empty ≡ true → queue ≢ []
+held_some empty n queue e all some f =
+    let none : n ≡ 0 = omega (arith, all, ap (λ (l : List Pending). length l) f) in
+    absurd (let told : empty ≡ true = e ∙ ap (λ k. k == 0) none in let off : not true ≡ true = sym (ap not told) ∙ some in cc)
+
+-- the first needs another context, no more wait than may, and the end has not come
+first_still : (pending : ℕ) (line : Line) (ended : Bool) (queue : List Pending) → FirstWaits line queue → ended ≡ false → length queue ≤ pending → queue_owes pending line ended queue ≡ []
+first_still pending line ended [] waits e few = refl
+first_still pending line ended (first ∷ rest) waits e few =
+    let full : nat_lt pending (length (first ∷ rest)) ≡ false = grind (arith, nat_tests) in
+    let off : is_first_due pending line ended first.shape (length (first ∷ rest)) ≡ false =
+    ap (λ k. k || nat_lt pending (length (first ∷ rest)) || ended) waits ∙ ap (λ f. f || ended) full ∙ e in
+    ap (λ b. cond b (packet_and_runs line (open_reason ended) first ++ queue_owes pending line ended rest) []) off
+
+pub still_idle : (state : State) → state.leaving ≡ None → FirstWaits state.line state.queue → state.ended ≡ false → length state.queue ≤ state.pending → owed state ≡ []
+still_idle state none waits e few =
+    ap (λ (o : Option Leaving). map out.Run (runs_left_of state.line (open_reason state.ended) o) ++ queue_owes state.pending state.line state.ended state.queue) none
+    ∙ first_still state.pending state.line state.ended state.queue waits e few
 
 pub idle : (state : State) → IsState state → owed state ≡ [] → IsIdle state
 idle state h e =
@@ -260,11 +291,13 @@ no_leaving : (line : Line) (why : Reason) (o : Option Leaving) → o ≡ None �
 no_leaving line why o e = subst (λ (o : Option Leaving). IfSome o (IsLeaving line why)) (sym e) tt
 
 module _ (old : State) (state : IsState old) (nothing : owed old ≡ []) where
-  pub IsState-context : (context : TimedContext) → HasSampling context.fields → IsState (after_context old context)
-  IsState-context context s =
+  pub IsState-context : (context : TimedContext) → HasSampling context.fields → IfSome (horizon_of old.line) (λ horizon. moment_of horizon < moment_of context.stamp)
+      → IsState (after_context old context)
+  IsState-context context s later =
       let calm = idle old state nothing in
       record {
         room = state.room;
+        is_line = IsLine-with_context old.line context state.is_line later;
         sound = sound-more old.line.limit old.line.kept context state.sound s;
         shapes = state.shapes;
         leaving = no_leaving (with_context old.line context) (open_reason old.ended) old.leaving calm.none_leaves;
@@ -275,6 +308,7 @@ module _ (old : State) (state : IsState old) (nothing : owed old ≡ []) where
       let calm = idle old state nothing in
       record {
         room = omega (arith, calm.few, length-append old.queue (packet ∷ []));
+        is_line = state.is_line;
         sound = state.sound;
         shapes = record { each = slice_get-push old.queue packet (λ (p : Pending). IsShape p.shape) state.shapes.each s };
         leaving = state.leaving;

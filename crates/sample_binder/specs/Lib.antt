@@ -5,6 +5,7 @@ pub mod Samples
 pub mod Due
 pub mod Runs
 pub mod Outputs
+pub mod GivenOut
 pub mod Sound
 pub mod Stretches
 pub mod Left

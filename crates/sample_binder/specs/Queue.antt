@@ -1,7 +1,7 @@
 -- What a contract sees of the queue of released packets, and what it still has to give.
-use Rattle.std.specs.Prelude.{◌≡◌, ℕ, ◌+◌, ◌-◌, ◌≤◌, ◌||◌, nat_lt, Bool, if◌then◌else◌, List, [], ◌∷◌, ◌++◌, length, drop, map, slice_get, Option, Some, None, IfSome}
+use Rattle.std.specs.Prelude.{◌≡◌, ℕ, ◌+◌, ◌-◌, ◌≤◌, ◌||◌, nat_lt, Bool, true, false, if◌then◌else◌, List, [], ◌∷◌, ◌++◌, length, drop, map, slice_get, Option, Some, None, IfSome}
 use Rattle.context_timeline.specs.declared.timed_context.TimedContext.{TimedContext}
-use Rattle.context_timeline.specs.Line.{Line}
+use Rattle.context_timeline.specs.Line.{Line, IsLine}
 use Rattle.context_timeline.specs.Marks.{mark_in}
 use Rattle.vrt_time.specs.Time.{moment_of}
 use Rattle.sample_binder.specs.declared.leaving.Leaving.{Leaving}
@@ -72,6 +72,7 @@ pub record AreShapes (queue : List Pending) : Type 0 where
 -- what is true of every queue
 pub record IsState (state : State) : Type 0 where
   pub room : length state.queue ≤ state.pending + 1
+  pub is_line : IsLine state.line
   pub sound : AreSound state.line.kept
   pub shapes : AreShapes state.queue
   pub leaving : IfSome state.leaving (IsLeaving state.line (open_reason state.ended))
@@ -82,7 +83,13 @@ first_decided pending line ended [] = None
 first_decided pending line ended (packet ∷ rest) =
     decided line packet.shape (nat_lt pending (length (packet ∷ rest)) || ended) (open_reason ended) (mark_in line (moment_of packet.shape.stamp))
 
--- and there is room for one more than may wait
-pub record IsBinding (state : State) (capacity : ℕ) : Type 0 where
+-- the first of these packets needs another context, if there is one
+abbrev pub FirstWaits : Line → List Pending → Type 0
+FirstWaits line [] = Unit {0}
+FirstWaits line (packet ∷ rest) = is_known line packet.shape ≡ false
+
+-- and there is room for one more than may wait; and whether the first is known to wait
+pub record IsBinding (state : State) (capacity : ℕ) (waits : Bool) : Type 0 where
   pub is_state : IsState state
   pub room_kept : state.pending + 1 ≤ capacity
+  pub first : waits ≡ true → FirstWaits state.line state.queue

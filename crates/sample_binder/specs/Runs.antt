@@ -33,6 +33,14 @@ label_by first why (mark.Lost lost) = label.Uncertain (reason.ContextLost lost)
 label_by first why (mark.Bound place fields) =
     if same_sampling first fields then label.Bound place fields else label.Uncertain reason.FormatChanged
 
+-- why a sample of this mark is not bound, where it is not
+abbrev pub reason_by : Reason → Mark → Reason
+reason_by why mark.Open = why
+reason_by why mark.BeforeFirst = reason.BeforeFirst
+reason_by why mark.TimelineFull = reason.TimelineFull
+reason_by why (mark.Lost lost) = reason.ContextLost lost
+reason_by why (mark.Bound place fields) = reason.FormatChanged
+
 -- the same reason: where contexts were lost, as many
 abbrev pub same_reason : Reason → Reason → Bool
 same_reason reason.BeforeFirst reason.BeforeFirst = true

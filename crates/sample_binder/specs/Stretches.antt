@@ -23,3 +23,10 @@ pub record IsStretch (labels : ℕ → Label) (number first : ℕ) (label : Labe
   pub within : end ≤ number
   pub alike : (m : ℕ) → first ≤ m → m < end → same_label label (labels m) ≡ true
   pub ends : (end ≡ number) ⊎ (same_label label (labels end) ≡ false)
+
+-- the samples from `from` on, up to `end`, have this label too, and the next one has not, if there is one
+pub record GoesOn (labels : ℕ → Label) (number from : ℕ) (label : Label) (end : ℕ) : Type 0 where
+  pub later : from ≤ end
+  pub within : end ≤ number
+  pub alike : (m : ℕ) → from ≤ m → m < end → same_label label (labels m) ≡ true
+  pub ends : (end ≡ number) ⊎ (same_label label (labels end) ≡ false)

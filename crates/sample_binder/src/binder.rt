@@ -1,7 +1,8 @@
-ghost use Rattle.std.specs.Prelude.{◌≡◌, ◌≢◌, ℕ, ◌+◌, ◌<◌, ◌≤◌, ◌^◌, ◌↔◌, true, false, List, [], ◌∷◌, ◌++◌, length, slice_get, bytes_eq, Result, IsTrue, IfOk, IfErr, OnOk, OnErr, OnSome, IfSome, IfNone};
+ghost use Rattle.std.specs.Prelude.{◌≡◌, ◌≢◌, ℕ, ◌+◌, ◌<◌, ◌≤◌, ◌^◌, ◌↔◌, true, false, List, [], ◌∷◌, ◌++◌, length, slice_get, bytes_eq, Some, Result, IsTrue, IfOk, IfErr, OnOk, OnErr, OnSome, IfSome, IfNone};
 ghost use Rattle.difi_context.specs.Context.{IsSpelled};
 ghost use Rattle.reorder_window.specs.Window.{answer};
 ghost use Rattle.sample_binder.specs.Calls.{Call, ContextCall, DataCall, EndCall, context_arrivals, data_arrivals, context_entry, data_entry, outputs_of, outcome};
+ghost use Rattle.sample_binder.specs.GivenOut.{out_with};
 ghost use Rattle.sample_binder.specs.Outputs.{packets_in};
 ghost use Rattle.sample_binder.specs.Queue.{owed};
 ghost use Rattle.sample_binder.specs.Given.{IsDataOf};
@@ -11,8 +12,9 @@ ghost use Rattle.sample_binder.specs.Binder.{StandsFor, SameBinder, number_kept,
 use crate::arrive::{arrive_context, arrive_data};
 use crate::binding::Binding;
 use crate::drain::{advance, go_on};
-use crate::out::Out;
+use crate::out::{Given, Out};
 use crate::release::{give_context, give_data};
+use crate::run::Run;
 use crate::turned::Turned;
 use difi_context::ContextRec;
 use reorder_window::{HeldItem, Window};
@@ -170,7 +172,30 @@ impl Binder {
         ensures nothing { IfNone result (owed self.old.state ≡ []) }
         ensures none { IfNone result (self.new ≡ self.old) }
     {
-        let given = match self.binding.next_out() {
+        let mut run = Run::blank();
+        match self.next_into(&mut run) {
+            Some(Given::Packet { buf, lost }) => Some(Out::Packet { buf, lost }),
+            Some(Given::Run) => Some(Out::Run(run)),
+            None => None,
+        }
+    }
+
+    /// The same as `next_out`, but a run is written and not handed out. Where what is given is no run,
+    /// nothing is written.
+    pub fn next_into(&mut self, run: &mut Run) -> Option<Given>
+        ensures given { (calls : List Call) (taken : ℕ) → StandsFor self.old calls taken
+            → out_with result run.new ≡ slice_get (outputs_of self.old.limits calls) taken }
+        ensures stands { (calls : List Call) (taken : ℕ) → StandsFor self.old calls taken
+            → OnSome (out_with result run.new) (StandsFor self.new calls (taken + 1)) }
+        ensures kept { SameBinder self.old self.new }
+        ensures count { self.new.given ≡ self.old.given }
+        ensures one_less { IfSome (out_with result run.new) (λ given.
+            number_kept self.new + packets_in given ≡ number_kept self.old) }
+        ensures nothing { IfNone (out_with result run.new) (owed self.old.state ≡ []) }
+        ensures none { IfNone (out_with result run.new) (self.new ≡ self.old) }
+        ensures run { result ≢ Some Given.Run → run.new ≡ run.old }
+    {
+        let given = match self.binding.next_into(run) {
             Some(given) => given,
             None => return None,
         };
@@ -183,7 +208,7 @@ impl Binder {
         Some(given)
     }
 
-    /// Whether `next_out` would give something.
+    /// Whether `next_out` and `next_into` would give something.
     pub fn owes(&self) -> bool
         ensures owes { IsTrue result ↔ (owed self.now.state ≢ []) }
         ensures nothing { result ≡ false → owed self.now.state ≡ [] }

@@ -1,17 +1,19 @@
-ghost use Rattle.std.specs.Prelude.{◌≡◌, ◌≢◌, ℕ, ◌+◌, ◌<◌, ◌≤◌, ◌^◌, ◌↔◌, suc, true, false, List, [], ◌∷◌, ◌++◌, None, length, slice_get, IsTrue, IfOk, IfSome, IfNone, OnSome};
+ghost use Rattle.std.specs.Prelude.{◌≡◌, ◌≢◌, ℕ, ◌+◌, ◌<◌, ◌≤◌, ◌^◌, ◌↔◌, suc, true, false, List, [], ◌∷◌, ◌++◌, Some, None, length, slice_get, IsTrue, IfOk, IfSome, IfNone, OnSome};
 ghost use Rattle.vrt_time.specs.Time.{moment_of};
 ghost use Rattle.difi_context.specs.Context.{IsInGrammar};
 ghost use Rattle.context_timeline.specs.Line.{line_of, with_context, timed_context, stamp_in, horizon_of};
 ghost use Rattle.vrt_fields.specs.declared.limits.Limits.{Limits};
 ghost use Rattle.sample_binder.specs.Events.{Event, ContextEvent, DataEvent, EndEvent};
+ghost use Rattle.sample_binder.specs.GivenOut.{out_with};
 ghost use Rattle.sample_binder.specs.Outputs.{outputs, packets_in};
 ghost use Rattle.sample_binder.specs.Queue.{owed, StandsFor, IsShape};
 
 use crate::give::{give_packet, give_run};
 use crate::leaving::Leaving;
-use crate::out::Out;
+use crate::out::Given;
 use crate::pending::Pending;
 use crate::queue::decide_first;
+use crate::run::Run;
 use context_timeline::Timeline;
 use difi_context::ContextRec;
 use std::alloc::Global;
@@ -28,6 +30,8 @@ pub(crate) struct Binding {
     queue: VecDeque<Pending>,
     leaving: Option<Leaving>,
     ended: bool,
+    // Whether the first that waits is known to need another context.
+    waits: bool,
 }
 
 impl Model for Binding {
@@ -38,7 +42,7 @@ impl Model for Binding {
 
     ghost view = { λ b. record { pending = b.pending; line = b.timeline; queue = b.queue.items; leaving = b.leaving; ended = b.ended } };
 
-    ghost invariant = { λ b. IsBinding (record { pending = b.pending; line = b.timeline; queue = b.queue.items; leaving = b.leaving; ended = b.ended }) (deque_capacity b.queue) };
+    ghost invariant = { λ b. IsBinding (record { pending = b.pending; line = b.timeline; queue = b.queue.items; leaving = b.leaving; ended = b.ended }) (deque_capacity b.queue) b.waits };
 }
 
 impl Binding {
@@ -60,6 +64,7 @@ impl Binding {
                 queue,
                 leaving: None,
                 ended: false,
+                waits: false,
             }),
             Err(_) => Err(NoMemory),
         }
@@ -76,6 +81,7 @@ impl Binding {
             → StandsFor self.new limits (events ++ ContextEvent (timed_context rec.now lost) ∷ []) taken }
     {
         self.timeline.add(rec, lost);
+        self.waits = false;
     }
 
     /// A data packet is released.
@@ -86,6 +92,8 @@ impl Binding {
         ensures history { (limits : Limits) (events : List Event) (taken : ℕ) → StandsFor self.old limits events taken
             → StandsFor self.new limits (events ++ DataEvent packet ∷ []) taken }
     {
+        // Nothing is owed, so what waits already needs more than one packet behind it.
+        self.waits = !self.queue.is_empty();
         self.queue.push_back_reserved(packet);
     }
 
@@ -99,22 +107,28 @@ impl Binding {
         self.ended = true;
     }
 
-    /// The next that is due: a packet, and then its runs. `None` exactly where nothing is owed.
-    pub(crate) fn next_out(&mut self) -> Option<Out>
-        ensures given { IfSome result (λ given. owed self.old ≡ given ∷ owed self.new) }
-        ensures none { IfNone result (owed self.old ≡ []) }
-        ensures same { IfNone result (self.new ≡ self.old) }
-        ensures kept { IfSome result (λ given.
+    /// The next that is due: a packet, and then its runs, each of which is written. `None` exactly where
+    /// nothing is owed.
+    pub(crate) fn next_into(&mut self, run: &mut Run) -> Option<Given>
+        ensures given { IfSome (out_with result run.new) (λ given. owed self.old ≡ given ∷ owed self.new) }
+        ensures none { IfNone (out_with result run.new) (owed self.old ≡ []) }
+        ensures same { IfNone (out_with result run.new) (self.new ≡ self.old) }
+        ensures kept { IfSome (out_with result run.new) (λ given.
             length self.new.queue + packets_in given ≡ length self.old.queue) }
         ensures line { self.new.line ≡ self.old.line }
         ensures limit { self.new.pending ≡ self.old.pending }
         ensures ended { self.new.ended ≡ self.old.ended }
         ensures history { (limits : Limits) (events : List Event) (taken : ℕ) → StandsFor self.old limits events taken
-            → OnSome result (StandsFor self.new limits events (taken + 1)) }
+            → OnSome (out_with result run.new) (StandsFor self.new limits events (taken + 1)) }
+        ensures run { result ≢ Some Given.Run → run.new ≡ run.old }
     {
-        if let Some(run) = give_run(&self.timeline, &mut self.leaving, self.ended) {
-            return Some(Out::Run(run));
+        if self.still_waits() {
+            return None;
         }
+        if give_run(&self.timeline, &mut self.leaving, self.ended, run) {
+            return Some(Given::Run);
+        }
+        self.waits = false;
         give_packet(
             &self.timeline,
             &mut self.queue,
@@ -124,13 +138,33 @@ impl Binding {
         )
     }
 
+    // Whether it is known with no look at the timeline that nothing is owed.
+    #[inline]
+    fn still_waits(&self) -> bool
+        ensures { result ≡ true → owed self.now ≡ [] }
+    {
+        self.waits
+            && !self.ended
+            && self.leaving.is_none()
+            && self.queue.len() <= self.pending as usize
+    }
+
     /// Whether something is owed.
     pub(crate) fn owes(&self) -> bool
         ensures owes { IsTrue result ↔ (owed self.now ≢ []) }
         ensures room { length self.now.queue ≤ self.now.pending + 1 }
     {
-        self.leaving.is_some()
-            || decide_first(&self.timeline, &self.queue, self.pending, self.ended).is_some()
+        if self.leaving.is_some() {
+            return true;
+        }
+        let mut leaving = None;
+        decide_first(
+            &self.timeline,
+            &self.queue,
+            self.pending,
+            self.ended,
+            &mut leaving,
+        )
     }
 
     /// Whether the end has come.

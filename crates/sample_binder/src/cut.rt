@@ -4,11 +4,11 @@ ghost use Rattle.context_timeline.specs.Marks.{mark_in};
 ghost use Rattle.context_timeline.specs.Looks.{mark_of};
 ghost use Rattle.sample_binder.specs.Samples.{rate_in};
 ghost use Rattle.sample_binder.specs.Sound.{HasSampling};
-ghost use Rattle.sample_binder.specs.Runs.{label_at, same_label};
-ghost use Rattle.sample_binder.specs.Stretches.{IsPassedBy, IsStretch};
+ghost use Rattle.sample_binder.specs.Runs.{label_at, label_by, same_label};
+ghost use Rattle.sample_binder.specs.Stretches.{IsPassedBy, IsStretch, GoesOn};
 
 use crate::clock::{captured, samples_before};
-use crate::label::{Label, is_same, label_of};
+use crate::label::{is_same, label_of};
 use crate::reason::Reason;
 use crate::sampled::Sampled;
 use crate::sampling::rate_of;
@@ -48,26 +48,43 @@ fn look_end<'a>(timeline: &'a Timeline, samples: &Sampled, sample: u32) -> (Look
     (look, passed_by(samples, until))
 }
 
-// The label of a sample, and the first sample behind it that has another one, or the number of samples.
-pub(crate) fn stretch(
-    timeline: &Timeline,
+// What is said of a sample, and the first sample behind it that has another label, or the number of samples.
+#[inline]
+pub(crate) fn stretch<'a>(
+    timeline: &'a Timeline,
     samples: &Sampled,
     why: Reason,
     first: u32,
-) -> (Label, u32)
+) -> (Look<'a>, u32)
     requires sampling { HasSampling samples.now.fields }
     requires there { first < samples.now.number }
-    ensures { IsStretch (label_at timeline.now why samples.now.stamp samples.now.fields) samples.now.number first result.0 result.1 }
+    ensures { IsStretch (label_at timeline.now why samples.now.stamp samples.now.fields) samples.now.number first
+        (label_by samples.now.fields why (mark_of result.0)) result.1 }
 {
-    let (look, mut end) = look_end(timeline, samples, first);
+    let (look, end) = look_end(timeline, samples, first);
+    if end >= samples.number {
+        return (look, end);
+    }
+    (look, end_from(timeline, samples, why, look, end))
+}
+
+// The first sample from this one on that has another label than one of which this is said, or the number of samples.
+#[inline(never)]
+fn end_from(timeline: &Timeline, samples: &Sampled, why: Reason, look: Look<'_>, from: u32) -> u32
+    requires sampling { HasSampling samples.now.fields }
+    requires within { from ≤ samples.now.number }
+    ensures { GoesOn (label_at timeline.now why samples.now.stamp samples.now.fields) samples.now.number from
+        (label_by samples.now.fields why (mark_of look.entry)) result }
+{
     let label = label_of(&samples.fields, why, look);
+    let mut end = from;
     while end < samples.number {
-        let (look, next) = look_end(timeline, samples, end);
-        let other = label_of(&samples.fields, why, look);
+        let (found, next) = look_end(timeline, samples, end);
+        let other = label_of(&samples.fields, why, found);
         if !is_same(&label, &other) {
-            return (label, end);
+            return end;
         }
         end = next;
     }
-    (label, end)
+    end
 }

@@ -1,11 +1,11 @@
-ghost use Rattle.std.specs.Prelude.{◌≡◌, ◌<◌, ◌≤◌, ◌^◌, ◌||◌};
+ghost use Rattle.std.specs.Prelude.{◌≡◌, ◌-◌, ◌<◌, ◌≤◌, ℕ, is_some, Some, None, true, false};
 ghost use Rattle.context_timeline.specs.Line.{horizon_of};
-ghost use Rattle.context_timeline.specs.Marks.{mark_in, is_below};
+ghost use Rattle.context_timeline.specs.Marks.{mark_in, is_below, next_stamp};
 ghost use Rattle.vrt_time.specs.Time.{moment_of, capture_at};
 ghost use Rattle.sample_binder.specs.Sound.{HasSampling};
 ghost use Rattle.sample_binder.specs.Queue.{AreSound, IsShape};
 ghost use Rattle.sample_binder.specs.Left.{raw_of, decided, decided_bound};
-ghost use Rattle.sample_binder.specs.Samples.{size_in, number_of};
+ghost use Rattle.sample_binder.specs.Samples.{rate_in, size_in, number_of};
 
 use crate::clock::is_captured_before;
 use crate::leaving::Leaving;
@@ -16,70 +16,111 @@ use crate::shape::Shape;
 use context_timeline::{Look, Timeline};
 use vrt_time::Stamp;
 
-// How a packet leaves, where nothing later can change what is known of it, or where it must.
-pub(crate) fn decide(timeline: &Timeline, shape: &Shape, must: bool, why: Reason) -> Option<Leaving>
+// Writes how a packet leaves, where nothing later can change what is known of it, or where it must: whether it leaves.
+pub(crate) fn decide(
+    timeline: &Timeline,
+    shape: &Shape,
+    must: bool,
+    why: Reason,
+    leaving: &mut Option<Leaving>,
+) -> bool
     requires sound { AreSound timeline.now.kept }
     requires shape { IsShape shape.now }
-    ensures { result ≡ decided timeline.now shape.now must why (mark_in timeline.now (moment_of shape.now.stamp)) }
+    ensures leaving { leaving.new ≡ decided timeline.now shape.now must why (mark_in timeline.now (moment_of shape.now.stamp)) }
+    ensures leaves { result ≡ is_some leaving.new }
 {
-    let (look, _) = timeline.look_until(shape.stamp.moment());
+    let (look, until) = timeline.look_until(shape.stamp.moment());
     match look {
-        Look::Open => { if must { Some(raw(why, shape)) } else { None } }
-        Look::BeforeFirst => Some(raw(Reason::BeforeFirst, shape)),
-        Look::TimelineFull => Some(raw(Reason::TimelineFull, shape)),
-        Look::Lost(lost) => Some(raw(Reason::ContextLost(lost), shape)),
-        Look::Bound { place: _, fields } => decide_bound(timeline, shape, must, fields),
+        Look::Open => {
+            if must {
+                leave_whole(why, shape, leaving)
+            } else {
+                wait(leaving)
+            }
+        }
+        Look::BeforeFirst => leave_whole(Reason::BeforeFirst, shape, leaving),
+        Look::TimelineFull => leave_whole(Reason::TimelineFull, shape, leaving),
+        Look::Lost(lost) => leave_whole(Reason::ContextLost(lost), shape, leaving),
+        Look::Bound { place: _, fields } => {
+            decide_bound(timeline, shape, must, fields, until, leaving)
+        }
     }
 }
 
-// The packet as a whole.
-fn raw(reason: Reason, shape: &Shape) -> Leaving
-    ensures { result ≡ raw_of reason shape.now }
+// The packet leaves as a whole.
+#[inline]
+fn leave_whole(reason: Reason, shape: &Shape, leaving: &mut Option<Leaving>) -> bool
+    ensures leaving { leaving.new ≡ Some (raw_of reason shape.now) }
+    ensures leaves { result ≡ true }
 {
-    Leaving::Raw {
+    *leaving = Some(Leaving::Raw {
         reason,
         stamp: shape.stamp,
         pad: shape.pad,
-    }
+    });
+    true
 }
 
-// The same for a packet whose first sample has a context with these fields.
+// The packet waits.
+#[inline]
+fn wait(leaving: &mut Option<Leaving>) -> bool
+    ensures leaving { leaving.new ≡ None }
+    ensures leaves { result ≡ false }
+{
+    *leaving = None;
+    false
+}
+
+// The same for a packet whose first sample has a context with these fields, which is in force until this stamp.
 fn decide_bound(
     timeline: &Timeline,
     shape: &Shape,
     must: bool,
     fields: &[u32; 19],
-) -> Option<Leaving>
+    until: Option<Stamp>,
+    leaving: &mut Option<Leaving>,
+) -> bool
     requires sampling { HasSampling fields.now }
     requires shape { IsShape shape.now }
-    ensures { result ≡ decided_bound timeline.now shape.now must fields.now (number_of shape.now (size_in fields.now)) }
+    requires next { until ≡ next_stamp timeline.now.kept (moment_of shape.now.stamp) }
+    requires closed { (later : ℕ) → moment_of shape.now.stamp ≤ later → is_below later until ≡ true
+        → is_below later (horizon_of timeline.now) ≡ true }
+    ensures leaving { leaving.new ≡ decided_bound timeline.now shape.now must fields.now (number_of shape.now (size_in fields.now)) }
+    ensures leaves { result ≡ is_some leaving.new }
 {
     let Some(number) = samples_of(shape, size_of(fields)) else {
-        return Some(raw(Reason::Shape, shape));
+        return leave_whole(Reason::Shape, shape, leaving);
     };
-    if is_before_horizon(timeline, shape.stamp, number - 1, rate_of(fields)) || must {
-        Some(Leaving::Cut {
-            samples: Sampled {
-                stamp: shape.stamp,
-                fields: *fields,
-                number,
-            },
-            first: 0,
-        })
+    let samples = Sampled {
+        stamp: shape.stamp,
+        fields: *fields,
+        number,
+    };
+    if is_last_before(&samples, until) {
+        *leaving = Some(Leaving::Whole { samples });
+        true
+    } else if is_last_before(&samples, timeline.horizon()) || must {
+        *leaving = Some(Leaving::Cut { samples, first: 0 });
+        true
     } else {
-        None
+        wait(leaving)
     }
 }
 
-// Whether a sample was captured below the horizon.
+// Whether the last of the samples was captured before the stamp, if there is one.
 #[inline]
-fn is_before_horizon(timeline: &Timeline, stamp: Stamp, sample: u32, rate: u64) -> bool
-    requires least { 2 ^ 20 ≤ rate }
-    requires most { rate < 2 ^ 63 }
-    ensures { result ≡ is_below (capture_at stamp sample rate) (horizon_of timeline.now) }
+fn is_last_before(samples: &Sampled, until: Option<Stamp>) -> bool
+    requires sampling { HasSampling samples.now.fields }
+    requires some { 0 < samples.now.number }
+    ensures { result ≡ is_below (capture_at samples.now.stamp (samples.now.number - 1) (rate_in samples.now.fields)) until }
 {
-    match timeline.horizon() {
-        Some(horizon) => is_captured_before(stamp, sample, rate, horizon),
+    match until {
+        Some(until) => is_captured_before(
+            samples.stamp,
+            samples.number - 1,
+            rate_of(&samples.fields),
+            until,
+        ),
         None => false,
     }
 }

@@ -75,6 +75,43 @@ fn a_packet_leaves_where_its_last_sample_is_below_the_horizon(
     play(rt.alloc(), LIMITS, &steps)
 }
 
+/// A picosecond after 1.5 s.
+const HARDLY_LATER: Time = Time(5, 1);
+
+// The last of the four samples is captured at 1.5 s, a picosecond before the second context.
+#[test]
+fn a_packet_leaves_where_its_last_sample_is_hardly_below_the_horizon(
+    rt: HostRuntime,
+) -> Result<(), Wrong> {
+    let steps = [
+        Data(START, 0, FOUR),
+        Context(START, 0, CHANGED, SLOW),
+        Nothing,
+        Context(HARDLY_LATER, 1, CHANGED, SLOW_OTHER_GAIN),
+        Packet(0),
+        Bound(START, 0, 4, START, SLOW, 16),
+        Nothing,
+    ];
+    play(rt.alloc(), LIMITS, &steps)
+}
+
+// The last of the four samples is captured at 1.5 s, a picosecond before the second of three contexts: one run.
+#[test]
+fn a_context_hardly_after_the_last_sample_does_not_cut(rt: HostRuntime) -> Result<(), Wrong> {
+    let second = Context(HARDLY_LATER, 1, CHANGED, SLOW_OTHER_GAIN);
+    let run = Bound(START, 0, 4, START, SLOW, 16);
+    across_a_context(rt.alloc(), second, run, Nothing)
+}
+
+// It is captured at the stamp of the second of three contexts: two runs, though the third is later.
+#[test]
+fn a_context_at_the_last_sample_cuts_before_a_later_one(rt: HostRuntime) -> Result<(), Wrong> {
+    let second = Context(ONE_AND_A_HALF, 1, CHANGED, SLOW);
+    let first_run = Bound(START, 0, 3, START, SLOW, 16);
+    let second_run = Bound(START, 3, 1, ONE_AND_A_HALF, SLOW, 16);
+    across_a_context(rt.alloc(), second, first_run, second_run)
+}
+
 #[test]
 fn a_sample_at_the_horizon_is_uncertain_at_the_end(rt: HostRuntime) -> Result<(), Wrong> {
     let steps = [

@@ -1,65 +1,80 @@
 ghost use Rattle.std.specs.Prelude.{◌≡◌, ◌+◌, true, false, [], ◌∷◌, None, length, IfSome, IfNone};
 ghost use Rattle.std.specs.VecDeque.{deque_capacity};
+ghost use Rattle.sample_binder.specs.declared.run.Run.{Run};
+ghost use Rattle.sample_binder.specs.GivenOut.{out_with};
 ghost use Rattle.sample_binder.specs.Left.{runs_left, runs_left_of, IsLeaving};
 ghost use Rattle.sample_binder.specs.Outputs.{open_reason, packets_in};
 ghost use Rattle.sample_binder.specs.Queue.{AreSound, AreShapes, first_decided};
 ghost use Rattle.sample_binder.specs.Steps.{GivesPacket};
 
 use crate::leaving::Leaving;
-use crate::out::Out;
+use crate::out::Given;
 use crate::pending::Pending;
 use crate::queue::{decide_first, why_open};
 use crate::reason::Reason;
 use crate::run::Run;
 use crate::runs::next_stretch;
+use crate::sampling::size_of;
 use context_timeline::Timeline;
 use std::collections::VecDeque;
 
-// The next run of the packet that leaves, if one leaves.
+// Writes the next run of the packet that leaves, if one leaves.
 pub(crate) fn give_run(
     timeline: &Timeline,
     leaving: &mut Option<Leaving>,
     ended: bool,
-) -> Option<Run>
+    run: &mut Run,
+) -> bool
     requires { IfSome leaving.old (IsLeaving timeline.now (open_reason ended)) }
-    ensures run { IfSome result (λ run. runs_left_of timeline.now (open_reason ended) leaving.old
-        ≡ run ∷ runs_left_of timeline.now (open_reason ended) leaving.new) }
-    ensures none { IfNone result (leaving.old ≡ None) }
-    ensures same { IfNone result (leaving.new ≡ None) }
+    ensures given { result ≡ true → runs_left_of timeline.now (open_reason ended) leaving.old
+        ≡ run.new ∷ runs_left_of timeline.now (open_reason ended) leaving.new }
+    ensures none { result ≡ false → leaving.old ≡ None }
+    ensures same { result ≡ false → leaving.new ≡ None }
+    ensures still { result ≡ false → run.new ≡ run.old }
     ensures rest { IfSome leaving.new (IsLeaving timeline.now (open_reason ended)) }
 {
     let Some(now) = leaving else {
-        return None;
+        return false;
     };
-    let (run, is_last) = take_run(timeline, why_open(ended), now);
-    if is_last {
+    if take_run(timeline, why_open(ended), now, run) {
         *leaving = None;
     }
-    Some(run)
+    true
 }
 
-// The next run of a packet that leaves, which is then left without it, and whether it is the last.
+// Writes the next run of a packet that leaves, which is then left without it: whether it is the last.
 #[inline]
-fn take_run(timeline: &Timeline, why: Reason, leaving: &mut Leaving) -> (Run, bool)
+fn take_run(timeline: &Timeline, why: Reason, leaving: &mut Leaving, run: &mut Run) -> bool
     requires { IsLeaving timeline.now why leaving.old }
-    ensures last { result.1 ≡ true → runs_left timeline.now why leaving.old ≡ result.0 ∷ [] }
-    ensures more { result.1 ≡ false → runs_left timeline.now why leaving.old
-        ≡ result.0 ∷ runs_left timeline.now why leaving.new }
-    ensures rest { result.1 ≡ false → IsLeaving timeline.now why leaving.new }
+    ensures last { result ≡ true → runs_left timeline.now why leaving.old ≡ run.new ∷ [] }
+    ensures more { result ≡ false → runs_left timeline.now why leaving.old
+        ≡ run.new ∷ runs_left timeline.now why leaving.new }
+    ensures rest { result ≡ false → IsLeaving timeline.now why leaving.new }
 {
     match leaving {
         Leaving::Raw { reason, stamp, pad } => {
-            let run = Run::Raw {
+            *run = Run::Raw {
                 reason: *reason,
                 stamp: *stamp,
                 pad: *pad,
             };
-            (run, true)
+            true
+        }
+        Leaving::Whole { samples } => {
+            *run = Run::Bound {
+                stamp: samples.stamp,
+                first: 0,
+                number: samples.number,
+                at: samples.stamp.moment(),
+                fields: samples.fields,
+                bits: size_of(&samples.fields),
+            };
+            true
         }
         Leaving::Cut { samples, first } => {
-            let (run, end) = next_stretch(timeline, why, samples, *first);
+            let end = next_stretch(timeline, why, samples, *first, run);
             *first = end;
-            (run, end >= samples.number)
+            end >= samples.number
         }
     }
 }
@@ -71,29 +86,34 @@ pub(crate) fn give_packet(
     leaving: &mut Option<Leaving>,
     pending: u32,
     ended: bool,
-) -> Option<Out>
+) -> Option<Given>
     requires sound { AreSound timeline.now.kept }
     requires shapes { AreShapes queue.old.items }
-    requires none { leaving.old ≡ None }
-    ensures packet { IfSome result (λ given. GivesPacket pending timeline.now ended queue.old.items queue.new.items leaving.new given) }
-    ensures kept { IfSome result (λ given.
+    ensures packet { (run : Run) → IfSome (out_with result run) (λ given.
+        GivesPacket pending timeline.now ended queue.old.items queue.new.items leaving.new given) }
+    ensures kept { (run : Run) → IfSome (out_with result run) (λ given.
         length queue.new.items + packets_in given ≡ length queue.old.items) }
     ensures none { IfNone result (first_decided pending timeline.now ended queue.old.items ≡ None) }
     ensures same_queue { IfNone result (queue.new.items ≡ queue.old.items) }
     ensures same_leaving { IfNone result (leaving.new ≡ None) }
     ensures room { deque_capacity queue.new ≡ deque_capacity queue.old }
 {
-    let first = match decide_first(timeline, queue, pending, ended) {
-        Some(first) => first,
-        None => return None,
-    };
-    let packet = match queue.pop_front() {
-        Some(packet) => packet,
+    if !decide_first(timeline, queue, pending, ended, leaving) {
+        return None;
+    }
+    match queue.pop_front() {
+        Some(packet) => Some(given_of(packet)),
         None => unreachable!(),
-    };
-    *leaving = Some(first);
-    Some(Out::Packet {
+    }
+}
+
+// A packet as it is given.
+#[inline]
+fn given_of(packet: Pending) -> Given
+    ensures { result ≡ Given.Packet packet.buf packet.lost }
+{
+    Given::Packet {
         buf: packet.buf,
         lost: packet.lost,
-    })
+    }
 }

@@ -11,24 +11,24 @@ use vrt_header::Profile;
 use vrt_time::{Moment, Stamp};
 use vrt_words::{PacketBuf, put_word, put_words};
 
-/// A time on the test's clock: so many halves of a second after 1,699,999,999 s.
+/// A time on the test's clock: so many halves of a second and so many picoseconds after 1,699,999,999 s.
 #[derive(Clone, Copy)]
-pub(crate) struct Time(pub(crate) u8);
+pub(crate) struct Time(pub(crate) u8, pub(crate) u8);
 
 /// A second before 1,700,000,000 s, that time, and so many seconds after it.
-pub(crate) const BEFORE: Time = Time(0);
+pub(crate) const BEFORE: Time = Time(0, 0);
 
-pub(crate) const START: Time = Time(2);
+pub(crate) const START: Time = Time(2, 0);
 
-pub(crate) const HALF_PAST: Time = Time(3);
+pub(crate) const HALF_PAST: Time = Time(3, 0);
 
-pub(crate) const ONE_SECOND: Time = Time(4);
+pub(crate) const ONE_SECOND: Time = Time(4, 0);
 
-pub(crate) const ONE_AND_A_HALF: Time = Time(5);
+pub(crate) const ONE_AND_A_HALF: Time = Time(5, 0);
 
-pub(crate) const TWO_SECONDS: Time = Time(6);
+pub(crate) const TWO_SECONDS: Time = Time(6, 0);
 
-pub(crate) const THREE_SECONDS: Time = Time(8);
+pub(crate) const THREE_SECONDS: Time = Time(8, 0);
 
 /// CIF0 with the twelve fields, with the change bit and without it.
 pub(crate) const CHANGED: u32 = 0xFBB9_8000;
@@ -59,10 +59,11 @@ pub(crate) fn fields(tuning: Tuning) -> [u32; 19] {
 // The words of the stamp of a packet. A half of a second is 0x74_6A52_8800 picoseconds.
 fn words_of_time(time: Time) -> [u32; 3] {
     let seconds = 1_699_999_999 + u32::from(time.0 / 2);
+    let picos = u32::from(time.1);
     if time.0 % 2 == 0 {
-        [seconds, 0, 0]
+        [seconds, 0, picos]
     } else {
-        [seconds, 0x74, 0x6A52_8800]
+        [seconds, 0x74, 0x6A52_8800 + picos]
     }
 }
 
@@ -72,7 +73,8 @@ pub(crate) fn stamp(time: Time) -> Result<Stamp, &'static str> {
 }
 
 pub(crate) fn moment(time: Time) -> Moment {
-    Moment::of(1_699_999_999_000_000_000_000 + u128::from(time.0) * 500_000_000_000)
+    let halves = u128::from(time.0) * 500_000_000_000;
+    Moment::of(1_699_999_999_000_000_000_000 + halves + u128::from(time.1))
 }
 
 // The profile of the packets.

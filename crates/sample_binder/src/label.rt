@@ -1,6 +1,6 @@
 ghost use Rattle.std.specs.Prelude.{◌≡◌};
 ghost use Rattle.context_timeline.specs.Looks.{mark_of};
-ghost use Rattle.sample_binder.specs.Runs.{same_sampling, label_by, same_reason, same_label};
+ghost use Rattle.sample_binder.specs.Runs.{same_sampling, label_by, reason_by, same_reason, same_label};
 
 use crate::reason::Reason;
 use crate::sampling::rate_of;
@@ -27,10 +27,6 @@ pub(crate) fn label_of(first: &[u32; 19], why: Reason, look: Look<'_>) -> Label
     ensures { result ≡ label_by first.now why (mark_of look.entry) }
 {
     match look {
-        Look::Open => Label::Uncertain(why),
-        Look::BeforeFirst => Label::Uncertain(Reason::BeforeFirst),
-        Look::TimelineFull => Label::Uncertain(Reason::TimelineFull),
-        Look::Lost(lost) => Label::Uncertain(Reason::ContextLost(lost)),
         Look::Bound { place, fields } => {
             if has_same_sampling(first, fields) {
                 Label::Bound {
@@ -41,11 +37,25 @@ pub(crate) fn label_of(first: &[u32; 19], why: Reason, look: Look<'_>) -> Label
                 Label::Uncertain(Reason::FormatChanged)
             }
         }
+        _ => Label::Uncertain(reason_of(why, look)),
+    }
+}
+
+// Why a sample of whose moment this is said is not bound, where it is not.
+pub(crate) fn reason_of(why: Reason, look: Look<'_>) -> Reason
+    ensures { result ≡ reason_by why (mark_of look.entry) }
+{
+    match look {
+        Look::Open => why,
+        Look::BeforeFirst => Reason::BeforeFirst,
+        Look::TimelineFull => Reason::TimelineFull,
+        Look::Lost(lost) => Reason::ContextLost(lost),
+        Look::Bound { .. } => Reason::FormatChanged,
     }
 }
 
 // Whether the sample rates and the payload formats of two contexts are the same.
-fn has_same_sampling(a: &[u32; 19], b: &[u32; 19]) -> bool
+pub(crate) fn has_same_sampling(a: &[u32; 19], b: &[u32; 19]) -> bool
     ensures { result ≡ same_sampling a.now b.now }
 {
     rate_of(a) == rate_of(b)

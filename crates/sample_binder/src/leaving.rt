@@ -11,6 +11,10 @@ pub(crate) enum Leaving {
         stamp: Stamp,
         pad: u8,
     },
+    /// All its samples, for which the context of the first is in force.
+    Whole {
+        samples: Sampled,
+    },
     /// Its samples from this one on.
     Cut {
         samples: Sampled,

@@ -42,7 +42,7 @@ pub use crate::laws::{
     outputs_are_whole_packets, packets_are_sound, releases_only_grow, samples_are_at_most_bytes,
     stretches_are_the_longest, taken_are_outputs, turned_away_changes_nothing,
 };
-pub use crate::out::Out;
+pub use crate::out::{Given, Out};
 pub use crate::reason::Reason;
 pub use crate::run::Run;
 pub use crate::turned::Turned;

@@ -6,13 +6,23 @@ ghost use Rattle.vrt_fields.specs.Limits.{AreLimits};
 ghost use Rattle.sample_binder.specs.Queue.{owed};
 
 use crate::harness::profile;
-use crate::{Binder, Limits, Out, Run, Turned};
+use crate::{Binder, Given, Limits, Out, Run, Turned};
 use difi_context::ContextRec;
 use std::alloc::Global;
 use vrt_words::PacketBuf;
 
 /// The most packets that a test gives.
 const MOST: u32 = 100;
+
+/// What is given where runs are written in place.
+#[derive(Clone, Copy, Debug, PartialEq, Eq)]
+pub(crate) enum Kind {
+    /// A packet, with so many lost before it.
+    Packet(u8),
+    /// The run that was written.
+    Run,
+    Nothing,
+}
 
 /// A binder under test.
 #[derive(Drop)]
@@ -116,6 +126,18 @@ impl Player {
                 drop(buf);
                 Err("a packet")
             }
+        }
+    }
+
+    // The next output, a run of which is written.
+    pub(crate) fn next_into(&mut self, run: &mut Run) -> Kind {
+        match self.binder.next_into(run) {
+            Some(Given::Packet { buf, lost }) => {
+                drop(buf);
+                Kind::Packet(lost)
+            }
+            Some(Given::Run) => Kind::Run,
+            None => Kind::Nothing,
         }
     }
 

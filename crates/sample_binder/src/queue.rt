@@ -1,4 +1,4 @@
-ghost use Rattle.std.specs.Prelude.{◌≡◌, ◌∷◌, ◌++◌, [], ◌<◌};
+ghost use Rattle.std.specs.Prelude.{◌≡◌, ◌∷◌, ◌++◌, [], ◌<◌, is_some};
 ghost use Rattle.std.specs.VecDeque.{deque_len, deque_capacity};
 ghost use Rattle.sample_binder.specs.Outputs.{open_reason};
 ghost use Rattle.sample_binder.specs.Queue.{AreSound, AreShapes, first_decided};
@@ -21,20 +21,23 @@ pub(crate) fn why_open(ended: bool) -> Reason
     }
 }
 
-// How the first of the packets that wait leaves, where it need not wait.
+// Writes how the first of the packets that wait leaves, where it need not wait: whether it leaves.
 pub(crate) fn decide_first(
     timeline: &Timeline,
     queue: &VecDeque<Pending>,
     pending: u32,
     ended: bool,
-) -> Option<Leaving>
+    leaving: &mut Option<Leaving>,
+) -> bool
     requires sound { AreSound timeline.now.kept }
     requires shapes { AreShapes queue.now.items }
-    ensures { result ≡ first_decided pending timeline.now ended queue.now.items }
+    ensures leaving { leaving.new ≡ first_decided pending timeline.now ended queue.now.items }
+    ensures leaves { result ≡ is_some leaving.new }
 {
     let Some(first) = queue.front() else {
-        return None;
+        *leaving = None;
+        return false;
     };
     let must = queue.len() > pending as usize || ended;
-    decide(timeline, &first.shape, must, why_open(ended))
+    decide(timeline, &first.shape, must, why_open(ended), leaving)
 }

@@ -1,3 +1,6 @@
+ghost use Rattle.std.specs.Prelude.{◌≡◌};
+ghost use Rattle.vrt_time.specs.Time.{stamp_of};
+
 use crate::reason::Reason;
 use vrt_time::{Moment, Stamp};
 
@@ -43,4 +46,20 @@ pub enum Run {
         /// How many bits at the end of the payload are unused: 0 to 31.
         pad: u8,
     },
+}
+
+impl Run {
+    /// A run of no packet, for a place in which runs are written.
+    pub fn blank() -> Run
+        ensures { result ≡ Run.Raw Reason.Ended (stamp_of 0 0) 0 }
+    {
+        let Some(stamp) = Stamp::of_picos(0, 0) else {
+            unreachable!()
+        };
+        Run::Raw {
+            reason: Reason::Ended,
+            stamp,
+            pad: 0,
+        }
+    }
 }

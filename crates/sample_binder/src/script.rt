@@ -79,7 +79,7 @@ fn carry_out(player: &mut Player, alloc: Global, step: &Step) -> Result<(), &'st
     }
 }
 
-fn give_context(
+pub(crate) fn give_context(
     player: &mut Player,
     time: Time,
     count: u8,
@@ -95,7 +95,7 @@ fn give_context(
     check(given == wanted, "another answer")
 }
 
-fn give_data(
+pub(crate) fn give_data(
     player: &mut Player,
     alloc: Global,
     time: Time,
@@ -128,7 +128,7 @@ fn turn_data(
 }
 
 // It is as wanted, or else this is wrong.
-fn check(is_wanted: bool, why: &'static str) -> Result<(), &'static str> {
+pub(crate) fn check(is_wanted: bool, why: &'static str) -> Result<(), &'static str> {
     if is_wanted { Ok(()) } else { Err(why) }
 }
 
@@ -149,7 +149,7 @@ fn expect(player: &mut Player, step: &Step) -> Result<(), &'static str> {
     }
 }
 
-fn run_of(step: &Step) -> Result<Run, &'static str> {
+pub(crate) fn run_of(step: &Step) -> Result<Run, &'static str> {
     match *step {
         Step::Bound(time, first, number, at, tuning, bits) => Ok(Run::Bound {
             stamp: stamp(time)?,

@@ -1,9 +1,10 @@
 use crate::harness::*;
+use crate::player::{Kind, Player};
 use crate::script::Step::{
     Bound, Context, ContextTurned, Data, DataTurned, End, Nothing, Packet, Raw, Uncertain,
 };
-use crate::script::{Answer, Step, Wrong, play};
-use crate::{Limits, Reason};
+use crate::script::{Answer, Step, Wrong, check, give_context, give_data, play, run_of};
+use crate::{Limits, Reason, Run};
 use std::alloc::Global;
 
 /// Windows of size 0: four contexts are kept, and eight packets may wait.
@@ -207,6 +208,26 @@ fn a_context_at_the_last_sample_has_that_sample(rt: HostRuntime) -> Result<(), W
     let first_run = Bound(START, 0, 3, START, SLOW, 16);
     let second_run = Bound(START, 3, 1, ONE_AND_A_HALF, SLOW_OTHER_GAIN, 16);
     across_a_context(rt.alloc(), second, first_run, second_run)
+}
+
+#[test]
+fn a_run_is_written_in_place(rt: HostRuntime) -> Result<(), &'static str> {
+    let mut player = Player::open(rt.alloc(), LIMITS)?;
+    give_context(&mut player, START, 0, CHANGED, SLOW, None)?;
+    give_context(&mut player, ONE_SECOND, 1, CHANGED, SLOW_OTHER_GAIN, None)?;
+    give_context(&mut player, TWO_SECONDS, 2, CHANGED, SLOW, None)?;
+    give_data(&mut player, rt.alloc(), START, 0, &FOUR)?;
+    let first_run = run_of(&Bound(START, 0, 2, START, SLOW, 16))?;
+    let second_run = run_of(&Bound(START, 2, 2, ONE_SECOND, SLOW_OTHER_GAIN, 16))?;
+    let mut run = Run::blank();
+    check(player.next_into(&mut run) == Kind::Packet(0), "no packet")?;
+    check(run == Run::blank(), "a packet was written")?;
+    check(player.next_into(&mut run) == Kind::Run, "no first run")?;
+    check(run == first_run, "another first run")?;
+    check(player.next_into(&mut run) == Kind::Run, "no second run")?;
+    check(run == second_run, "another second run")?;
+    check(player.next_into(&mut run) == Kind::Nothing, "something")?;
+    check(run == second_run, "nothing was written")
 }
 
 #[test]

@@ -1,20 +1,13 @@
-use Rattle.std.proofs.Common.{◌≡◌, sym, ap, ◌∙◌, inl, inr, arith}
-use Rattle.std.proofs.lemmas.Bool.{cases_lt}
-use Rattle.sample_binder.specs.Runs.{label_at, label_by, same_label}
+use Rattle.std.proofs.Common.{ap}
+use Rattle.context_timeline.specs.Looks.{mark_of}
+use Rattle.sample_binder.specs.Runs.{label_at, label_by}
+use Rattle.sample_binder.proofs.CutLemmas.{stretch_with}
 use Rattle.sample_binder.proofs.cut.stretch.Goals as goal
 
-pub loop-end-preserved : goal.loop-end-preserved
-loop-end-preserved c =
-    let next = c.look_end-next in
+pub returns : goal.returns
+returns c =
     let samples = c.args.samples.now in
-    record {
-      some = omega (arith, c.loop-end.invariant.some, next.ensures.later);
-      within = next.ensures.within;
-      alike = λ m le lt. elim (cases_lt m c.loop-end.end) [
-        | inl before ↦ c.loop-end.invariant.alike m le before
-        | inr behind ↦
-            let label : label_at c.args.timeline.now c.args.why samples.stamp samples.fields m ≡ c.label_of-other.result =
-            ap (label_by samples.fields c.args.why) (next.ensures.same m behind lt) ∙ sym c.label_of-other.ensures in
-            ap (same_label c.label_of-label.result) label ∙ sym c.is_same.ensures ∙ c.if-not-is_same.false
-      ];
-    }
+    let found = c.look_end-end in
+    let label = label_by samples.fields c.args.why (mark_of found.result.0) in
+    stretch_with (label_at c.args.timeline.now c.args.why samples.stamp samples.fields) samples.number c.args.first found.result.1 c.end_from.result label
+    found.ensures.later (λ m le lt. ap (label_by samples.fields c.args.why) (found.ensures.same m le lt)) c.end_from.ensures

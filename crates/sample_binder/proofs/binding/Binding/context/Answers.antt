@@ -15,10 +15,12 @@ invariant_of-self c =
     let inside = c.self.inside in
     let old : State = record { pending = inside.pending; line = inside.timeline; queue = inside.queue.items; leaving = inside.leaving; ended = inside.ended } in
     let context = timed_context c.args.rec.now c.args.lost in
+    let later : IfSome (horizon_of old.line) (λ horizon. moment_of horizon < moment_of context.stamp) =
+    subst (λ (s : State). IfSome (horizon_of s.line) (λ horizon. moment_of horizon < moment_of context.stamp)) (sym c.self.view_is) c.requires.later in
     let kept : IsState (record { pending = inside.pending; line = c.add.new.self; queue = inside.queue.items; leaving = inside.leaving; ended = inside.ended }) =
     subst (λ (l : Line). IsState (record { pending = inside.pending; line = l; queue = inside.queue.items; leaving = inside.leaving; ended = inside.ended })) (sym c.add.ensures.one_more)
-    (IsState-context old c.self.invariant.is_state (ap owed c.self.view_is ∙ c.requires.nothing) context (sampling_of c.args.rec.now c.requires.grammar)) in
-    record { is_state = kept; room_kept = c.self.invariant.room_kept }
+    (IsState-context old c.self.invariant.is_state (ap owed c.self.view_is ∙ c.requires.nothing) context (sampling_of c.args.rec.now c.requires.grammar) later) in
+    record { is_state = kept; room_kept = c.self.invariant.room_kept; first = λ e. absurd (cc) }
 
 pub returns-clause-history : goal.returns-clause-history
 returns-clause-history c = λ limits events taken h.

@@ -1,8 +1,8 @@
 use Rattle.std.proofs.Common.{◌++◌, ◌∷◌, [], List, sym, ap, ◌∙◌, subst, arith}
 use Rattle.sample_binder.specs.declared.pending.Pending.{Pending}
 use Rattle.sample_binder.specs.Events.{DataEvent}
-use Rattle.sample_binder.specs.Queue.{State, owed, StandsFor, IsState}
-use Rattle.sample_binder.proofs.StateLemmas.{stands-data, IsState-data, idle}
+use Rattle.sample_binder.specs.Queue.{FirstWaits, State, owed, StandsFor, IsState}
+use Rattle.sample_binder.proofs.StateLemmas.{first_held, held_some, stands-data, IsState-data, idle}
 use Rattle.sample_binder.proofs.binding.Binding.data.Goals as goal
 
 pub push_back_reserved-requires : goal.push_back_reserved-requires
@@ -18,7 +18,7 @@ invariant_of-self c =
     let kept : IsState (record { pending = inside.pending; line = inside.timeline; queue = c.push_back_reserved.new.self.items; leaving = inside.leaving; ended = inside.ended }) =
     subst (λ (q : List Pending). IsState (record { pending = inside.pending; line = inside.timeline; queue = q; leaving = inside.leaving; ended = inside.ended })) (sym c.push_back_reserved.ensures.items)
     (IsState-data old c.self.invariant.is_state (ap owed c.self.view_is ∙ c.requires.nothing) c.args.packet c.requires.shape) in
-    record { is_state = kept; room_kept = omega (arith, c.self.invariant.room_kept, c.push_back_reserved.ensures.capacity) }
+    record { is_state = kept; room_kept = omega (arith, c.self.invariant.room_kept, c.push_back_reserved.ensures.capacity); first = λ e. subst (λ (q : List Pending). FirstWaits inside.timeline q) (sym c.push_back_reserved.ensures.items) (first_held inside.pending inside.timeline inside.ended inside.queue.items c.args.packet (idle old c.self.invariant.is_state (ap owed c.self.view_is ∙ c.requires.nothing)).queue_waits (held_some c.is_empty.result _ inside.queue.items c.is_empty.ensures (omega (arith, inside.queue.ok.0)) e)) }
 
 pub returns-clause-history : goal.returns-clause-history
 returns-clause-history c = λ limits events taken h.
