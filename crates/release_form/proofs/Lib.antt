@@ -4,3 +4,4 @@ pub mod Sixteen
 pub mod Written
 pub mod Laid
 pub mod Spelling
+pub mod Pushed

@@ -1,5 +1,6 @@
 -- Release records: what one says, with its variable part, and the record of a value with a payload or a packet.
-use Rattle.std.specs.Prelude.{◌≡◌, ℕ, ◌+◌, ◌≤◌, List, [], length, take, drop}
+use Rattle.std.specs.Prelude.{◌≡◌, ℕ, ◌+◌, ◌≤◌, List, [], ◌++◌, length, take, drop}
+use Rattle.vrt_words.specs.Words.{AreBytes}
 use Rattle.sample_unpack.specs.Bits.{bits_of_bytes}
 use Rattle.sample_unpack.specs.Samples.{bits_of_samples, samples_from}
 use Rattle.sample_binder.specs.declared.run.Run.{Run}
@@ -7,7 +8,7 @@ use Rattle.sample_binder.specs.declared.run.Run.TheVariants.{Bound, Uncertain, R
 use Rattle.release_form.specs.Positions.{word}
 use Rattle.release_form.specs.Rules.{Obeys}
 use Rattle.release_form.specs.Layout.{IsLaidOut, kind_of, front_of}
-use Rattle.release_form.specs.Sizes.{HasLength}
+use Rattle.release_form.specs.Sizes.{HasLength, size_with}
 use Rattle.release_form.specs.declared.shown.Shown.{Shown}
 use Rattle.release_form.specs.declared.shown.Shown.TheVariants.{Run as ARun, Ack, Refused, Version, End}
 
@@ -64,3 +65,15 @@ pub record IsRecordOf (shown : Shown) (payload bytes : List ℕ) : Type 0 where
   pub part : List ℕ
   pub part_is : IsPartOf shown payload part
   pub release : IsRelease (as_read shown) part bytes
+
+-- so many bytes, of which this is true, stand behind those before
+pub record IsBehind (Is : List ℕ → Type 0) (size : ℕ) (before after : List ℕ) : Type 0 where
+  pub bytes : List ℕ
+  pub fit : AreBytes bytes
+  pub size_is : length bytes ≡ size
+  pub behind : after ≡ before ++ bytes
+  pub is : Is bytes
+
+-- the record of a value with a payload or a packet does
+abbrev pub IsPushed : Shown → List ℕ → List ℕ → List ℕ → Type 0
+IsPushed shown payload before after = IsBehind (IsRecordOf shown payload) (size_with shown (length payload)) before after

@@ -2,7 +2,8 @@ ghost use Rattle.std.specs.Prelude.{◌≡◌, ℕ, ◌+◌, ◌*◌, ◌≤◌,
 ghost use Rattle.vrt_words.specs.Words.{words_of};
 ghost use Rattle.vrt_time.specs.Time.{IsStamp, parts_of};
 ghost use Rattle.sample_binder.specs.Reasons.{number_of, detail_of};
-ghost use Rattle.release_form.specs.Layout.{front_of, front_of_run, kind_of};
+ghost use Rattle.release_form.specs.Layout.{front_of, front_of_run, kind_of_run};
+ghost use Rattle.release_form.specs.declared.shown.Shown.TheVariants as shown;
 ghost use Rattle.release_form.specs.Front.{high_word, low_word, front_words, run_words, moment_words, late_words, count_words, IsTyped, IsTypedRun};
 
 use crate::shown::Shown;
@@ -18,43 +19,62 @@ pub(crate) fn put_front(shown: &Shown, body: u32, into: &mut [u8])
     ensures behind { drop (front_of shown.now) into.new ≡ drop (front_of shown.now) into.old }
     ensures typed { IsTyped shown.now }
 {
-    put_next(into, 0, &[kind(shown), body]);
     match shown {
         Shown::Run {
             stream,
             port,
             lost,
             run,
-        } => {
-            put_next(into, 2, &[*stream, u32::from(*port), u32::from(*lost)]);
-            put_run(run, into);
-        }
+        } => put_front_of_run(*stream, *port, *lost, run, body, into),
         Shown::Refused {
             frame,
             port,
             reason,
             detail,
             stamp,
-        } => put_refused(*frame, *port, *reason, *detail, stamp, into),
-        Shown::Ack { port } | Shown::Version { port } => put_next(into, 2, &[u32::from(*port)]),
-        Shown::End { counts } => put_counts(counts, into),
+        } => {
+            put_next(into, 0, &[5, body]);
+            put_refused(*frame, *port, *reason, *detail, stamp, into);
+        }
+        Shown::Ack { port } => put_next(into, 0, &[4, body, u32::from(*port)]),
+        Shown::Version { port } => put_next(into, 0, &[6, body, u32::from(*port)]),
+        Shown::End { counts } => {
+            put_next(into, 0, &[7, body]);
+            put_counts(counts, into);
+        }
     }
 }
 
-// The kind of a record.
-fn kind(shown: &Shown) -> u32
-    ensures { result ≡ kind_of shown.now }
+/// The same for a run.
+pub(crate) fn put_front_of_run(
+    stream: u32,
+    port: u16,
+    lost: u8,
+    run: &Run,
+    body: u32,
+    into: &mut [u8],
+)
+    requires { front_of_run run.now ≤ length into.old }
+    ensures words { words_of (take (front_of_run run.now) into.new) ≡ front_words (shown.Run stream port lost run.now) body }
+    ensures behind { drop (front_of_run run.now) into.new ≡ drop (front_of_run run.now) into.old }
+    ensures typed { IsTyped (shown.Run stream port lost run.now) }
 {
-    match shown {
-        Shown::Run { run, .. } => match run {
-            Run::Bound { .. } => 1,
-            Run::Uncertain { .. } => 2,
-            Run::Raw { .. } => 3,
-        },
-        Shown::Ack { .. } => 4,
-        Shown::Refused { .. } => 5,
-        Shown::Version { .. } => 6,
-        Shown::End { .. } => 7,
+    put_next(
+        into,
+        0,
+        &[kind_of(run), body, stream, u32::from(port), u32::from(lost)],
+    );
+    put_run(run, into);
+}
+
+// The kind of a run's record.
+fn kind_of(run: &Run) -> u32
+    ensures { result ≡ kind_of_run run.now }
+{
+    match run {
+        Run::Bound { .. } => 1,
+        Run::Uncertain { .. } => 2,
+        Run::Raw { .. } => 3,
     }
 }
 

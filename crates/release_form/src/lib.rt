@@ -9,6 +9,7 @@ mod encoding;
 mod fields;
 mod front;
 mod positions;
+mod pushing;
 mod reading;
 mod refusal;
 mod round_trip;
@@ -20,6 +21,7 @@ mod tests;
 
 pub use crate::decoding::decode;
 pub use crate::encoding::encode;
+pub use crate::pushing::{push_record, push_run};
 pub use crate::refusal::Refusal;
 pub use crate::round_trip::one_to_one;
 pub use crate::shown::Shown;

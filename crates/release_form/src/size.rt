@@ -1,6 +1,6 @@
-ghost use Rattle.std.specs.Prelude.{◌≡◌, ℕ, List, length};
-ghost use Rattle.release_form.specs.Layout.{front_of};
-ghost use Rattle.release_form.specs.Sizes.{size_with, IsBounded};
+ghost use Rattle.std.specs.Prelude.{◌≡◌, ℕ, ◌+◌, List, length};
+ghost use Rattle.release_form.specs.Layout.{front_of, front_of_run};
+ghost use Rattle.release_form.specs.Sizes.{size_with, run_part_size, IsBounded, IsRunBounded};
 ghost use Rattle.release_form.specs.Release.{IsRecordOf};
 
 use crate::shown::Shown;
@@ -14,11 +14,7 @@ pub fn size_of(shown: &Shown, bytes: usize) -> usize
         → length written ≡ result }
 {
     match shown {
-        Shown::Run { run, .. } => match run {
-            Run::Bound { number, .. } => 132 + 4 * *number as usize,
-            Run::Uncertain { number, .. } => 64 + 4 * *number as usize,
-            Run::Raw { .. } => 44 + bytes,
-        },
+        Shown::Run { run, .. } => size_of_run(run, bytes),
         Shown::Ack { .. } | Shown::Version { .. } => 12 + bytes,
         Shown::Refused { .. } => 40,
         Shown::End { .. } => 64,
@@ -30,13 +26,31 @@ pub(crate) fn front_len(shown: &Shown) -> usize
     ensures { result ≡ front_of shown.now }
 {
     match shown {
-        Shown::Run { run, .. } => match run {
-            Run::Bound { .. } => 132,
-            Run::Uncertain { .. } => 64,
-            Run::Raw { .. } => 44,
-        },
+        Shown::Run { run, .. } => front_len_of_run(run),
         Shown::Ack { .. } | Shown::Version { .. } => 12,
         Shown::Refused { .. } => 40,
         Shown::End { .. } => 64,
+    }
+}
+
+/// The same for a run.
+pub(crate) fn size_of_run(run: &Run, bytes: usize) -> usize
+    requires { IsRunBounded run.now bytes }
+    ensures { result ≡ front_of_run run.now + run_part_size run.now bytes }
+{
+    match run {
+        Run::Bound { number, .. } => 132 + 4 * *number as usize,
+        Run::Uncertain { number, .. } => 64 + 4 * *number as usize,
+        Run::Raw { .. } => 44 + bytes,
+    }
+}
+
+pub(crate) fn front_len_of_run(run: &Run) -> usize
+    ensures { result ≡ front_of_run run.now }
+{
+    match run {
+        Run::Bound { .. } => 132,
+        Run::Uncertain { .. } => 64,
+        Run::Raw { .. } => 44,
     }
 }
