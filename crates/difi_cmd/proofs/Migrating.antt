@@ -14,7 +14,7 @@ use Rattle.record_run.proofs.Retold.{outcome_retold}
 use Rattle.difi_cmd.specs.Outcome.{migrated_of, migration_of}
 use Rattle.difi_cmd.specs.Migrated.{IsFrameBytes, IsMigratedHead}
 use Rattle.difi_cmd.specs.Migrating.{Migrating, IsToldBy, IsStarted, migrated_by}
-use Rattle.difi_cmd.proofs.Telling.{frame_is, head_is}
+use Rattle.difi_cmd.proofs.Telling.{head_is}
 
 begun_told : (head : RecordHead) (started now : Bool) (owed bytes : List ℕ) (later : List Frame) (more : List ℕ) → started ≡ false → now ≡ true → IsMigratedHead head bytes
     → IsToldBy now bytes head later more → IsToldBy started owed head later more
@@ -39,11 +39,11 @@ one_more head frame bytes true (x ∷ owed) later more e none is p = absurd (ome
 one_more head frame bytes false owed later more e none is p = cc
 
 -- one frame more
-pub frame_on : (reader : Reading) (head : RecordHead) (frame : Frame) (bytes waiting waiting' : List ℕ) (old new : Migrating) → new ≡ record old { frames = old.frames + 1 } → old.started ≡ true → length old.owed ≡ 0
-    → (reader.whole ≡ true) × IsFrame first_stamp (held_frame reader) bytes → (record_reads reader).frame ≡ Some frame → AreBytes bytes → waiting' ≡ waiting ++ bytes
+pub frame_on : (reader : Reading) (taken : List ℕ) (head : RecordHead) (frame : Frame) (bytes waiting waiting' : List ℕ) (old new : Migrating) → new ≡ record old { frames = old.frames + 1 } → old.started ≡ true → length old.owed ≡ 0
+    → (reader.whole ≡ true) × IsFrame first_stamp (held_frame reader taken) bytes → (record_reads reader).frame taken frame → AreBytes bytes → waiting' ≡ waiting ++ bytes
     → Puts head (frame ∷ []) waiting waiting' (migrated_by old) (migrated_by new)
-frame_on reader head frame bytes waiting waiting' old new counted started none has whole fit put =
-    let same : held_frame reader ≡ frame = frame_is reader.whole (held_frame reader) frame has.0 whole in
+frame_on reader taken head frame bytes waiting waiting' old new counted started none has whole fit put =
+    let same : held_frame reader taken ≡ frame = sym whole.1.0 in
     let is : IsFrameBytes frame bytes = record { fit = fit; says = subst (λ (f : Frame). IsFrame first_stamp f bytes) same has.1 } in
     subst (λ (it : Migrating). Puts head (frame ∷ []) waiting waiting' (migrated_by old) (migrated_by it)) (sym counted) (record {
       text = bytes;

@@ -63,19 +63,15 @@ pub head_is : (started : Bool) (head other : RecordHead) → started ≡ true �
 head_is true head other e same = cc
 head_is false head other e same = cc
 
-pub frame_is : (whole : Bool) (frame other : Frame) → whole ≡ true → (if whole then Some frame else None) ≡ Some other → frame ≡ other
-frame_is true frame other e same = cc
-frame_is false frame other e same = cc
-
 -- the frame that is whole was noted
-pub frame_told : (reader : Reading) (head : RecordHead) (frame : Frame) (lent : RecordHead) (stamp : TimeStamp) (port : ℕ) (datagram : List ℕ) (old new : Report) (text text' : List ℕ)
-    → (reader.started ≡ true) × (lent ≡ reader.head) → (reader.whole ≡ true) × (held_frame reader ≡ record { stamp = stamp; port = port; datagram = datagram })
-    → (record_reads reader).head ≡ Some head → (record_reads reader).frame ≡ Some frame
+pub frame_told : (reader : Reading) (bytes : List ℕ) (head : RecordHead) (frame : Frame) (lent : RecordHead) (stamp : TimeStamp) (port : ℕ) (datagram : List ℕ) (old new : Report) (text text' : List ℕ)
+    → (reader.started ≡ true) × (lent ≡ reader.head) → (reader.whole ≡ true) × (held_frame reader bytes ≡ record { stamp = stamp; port = port; datagram = datagram })
+    → (record_reads reader).head ≡ Some head → (record_reads reader).frame bytes frame
     → (account : Account) × IsAccount old.listing lent datagram account × IsNoted old new text text' account
     → Puts head (frame ∷ []) text text' (told_by old) (told_by new)
-frame_told reader head frame lent stamp port datagram old new text text' has_head has_frame known whole noted =
+frame_told reader bytes head frame lent stamp port datagram old new text text' has_head has_frame known whole noted =
     let same_head : lent ≡ head = has_head.1 ∙ head_is reader.started reader.head head has_head.0 known in
-    let same_frame : datagram ≡ frame.datagram = ap (λ (f : Frame). f.datagram) (sym has_frame.1 ∙ frame_is reader.whole (held_frame reader) frame has_frame.0 whole) in
+    let same_frame : datagram ≡ frame.datagram = ap (λ (f : Frame). f.datagram) (sym has_frame.1 ∙ sym whole.1.0) in
     noted_on head frame old new text text' noted.0
     (subst (λ (h : RecordHead). IsAccount old.listing h frame.datagram noted.0) same_head (subst (λ d. IsAccount old.listing lent d noted.0) same_frame noted.1)) noted.2
 

@@ -108,11 +108,11 @@ impl Teller<RecordReader> for Migration {
         Ok(())
     }
 
-    fn frame(&mut self, _alloc: Global, intake: &RecordReader, out: &mut TextBuffer) {
-        let Some(bytes) = intake.frame_bytes() else {
+    fn frame(&mut self, _alloc: Global, intake: &RecordReader, bytes: &[u8], out: &mut TextBuffer) {
+        let Some(frame) = intake.frame_bytes(bytes) else {
             unreachable!()
         };
-        self.put(bytes, out);
+        self.put(frame, out);
     }
 
     fn end(&mut self, _alloc: Global, _out: &mut TextBuffer) {

@@ -115,11 +115,11 @@ impl Teller<RecordReader> for Report {
     }
 
     #[inline(always)]
-    fn frame(&mut self, alloc: Global, intake: &RecordReader, out: &mut TextBuffer) {
+    fn frame(&mut self, alloc: Global, intake: &RecordReader, bytes: &[u8], out: &mut TextBuffer) {
         let Some(head) = intake.head() else {
             unreachable!()
         };
-        let Some((_, _, datagram)) = intake.frame() else {
+        let Some((_, _, datagram)) = intake.frame(bytes) else {
             unreachable!()
         };
         self.tell(alloc, head, datagram, out);

@@ -15,12 +15,12 @@ use Rattle.difi_gateway.specs.Told.{Item}
 use Rattle.difi_gateway.specs.Releases.{Release, copies, counts_of, all_told, part_of, bound_samples, uncertain_samples, raw_packets, refused_frames, versions}
 use Rattle.difi_gateway.specs.State.{Gated, StandsFor, IsNoneBehind, end_left, IsSound, IsWithin, is_drawn, is_ended, items_of, items_left, releases_of, copies_left, bytes_taken}
 use Rattle.difi_gateway.specs.Drawing.{IsDrawn, IsGoneOn, IsEndTold, drawn_from}
-use Rattle.difi_gateway.specs.Writing.{IsCopyWritten, IsEndWritten, FitsIn}
+use Rattle.difi_gateway.specs.Writing.{IsCopyWritten, IsEndWritten}
 use Rattle.difi_gateway.specs.Written.{CanBeWritten}
 use Rattle.difi_gateway.specs.Progress.{IsMoved, IsGiven, IsAllGiven, IsSettledAt}
 use Rattle.difi_gateway.specs.declared.drawn.Drawn.{Drawn}
 use Rattle.difi_gateway.specs.declared.drawn.Drawn.TheVariants as drawn
-use Rattle.difi_gateway.specs.declared.telling.Telling.TheVariants as telling
+use Rattle.difi_gateway.specs.Telling as telling
 use Rattle.difi_gateway.specs.declared.stage.Stage.{Stage}
 use Rattle.difi_gateway.specs.declared.stage.Stage.TheVariants as stages
 use Rattle.difi_gateway.proofs.DrawSteps.{draw_kept, form_2}
@@ -176,18 +176,13 @@ all_behind P zero xs h = h
 all_behind P (suc n) [] h = tt
 all_behind P (suc n) (x ∷ xs) h = all_behind P n xs h.1
 
-fit_in : (room : ℕ) (releases : List Release) → room ≡ 262144 → AllByRecursion CanBeWritten releases → AllByRecursion (FitsIn room) releases
-fit_in room [] e h = tt
-fit_in room (release ∷ releases) e h = (record { can = h.0; within = omega (arith, e, h.0.fits) }, fit_in room releases e h.1)
-
-module _ (gate : Gated) (head : RecordHead) (received : List Received) (ended : Bool) (given : ℕ) (st : StandsFor gate head received ended given) (room : ℕ) (e : room ≡ 262144) where
+module _ (gate : Gated) (head : RecordHead) (received : List Received) (ended : Bool) (given : ℕ) (st : StandsFor gate head received ended given) where
   all_written : (b : Bool) → AllByRecursion CanBeWritten (releases_of head received b)
   all_written true = out_writable head received st.contents st.fit
   all_written false = all_front CanBeWritten (part_of head received) _ (subst (AllByRecursion CanBeWritten) (out-append head received) (out_writable head received st.contents st.fit))
 
-  pub copies_fit : AllByRecursion (FitsIn room) (copies_left gate)
-  copies_fit =
-      fit_in room (copies_left gate) e
+  pub copies_written : AllByRecursion CanBeWritten (copies_left gate)
+  copies_written =
       (all_front CanBeWritten (copies_left gate) _ (subst (AllByRecursion CanBeWritten) st.rest (all_behind CanBeWritten given (releases_of head received ended) (all_written ended))))
 
 -- ---- the first copy that is left

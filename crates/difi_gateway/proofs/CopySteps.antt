@@ -7,8 +7,8 @@ use Rattle.difi_gateway.specs.Contents.{Received}
 use Rattle.difi_gateway.specs.Releases.{Release, copies}
 use Rattle.difi_gateway.specs.State.{Gated, StandsFor, IsPlaced, EndsWith, packet_in, items_in, items_left, end_left, copies_left, releases_of}
 use Rattle.difi_gateway.specs.Writing.{IsCopyWritten, number_of_copies}
-use Rattle.difi_gateway.specs.declared.telling.Telling.{Telling}
-use Rattle.difi_gateway.specs.declared.telling.Telling.TheVariants as telling
+use Rattle.difi_gateway.specs.Telling.{Telling}
+use Rattle.difi_gateway.specs.Telling as telling
 use Rattle.difi_gateway.proofs.WriteLemmas.{is_on, is_none}
 
 -- what stands behind the first element that is left

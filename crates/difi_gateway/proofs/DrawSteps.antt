@@ -28,8 +28,8 @@ use Rattle.difi_gateway.specs.Releases.{copies, counts_of, bound_samples, uncert
 use Rattle.difi_gateway.specs.State.{IsNoneBehind, Gated, StandsFor, EndsWith, IsBinder, IsStream, AreBinders, HasRoom, calls_with, number_ended, is_drawn, stream_at, packet_in, items_in, items_left, runs_left, told_at_end_of, end_left, copies_left, releases_of}
 use Rattle.difi_gateway.specs.Drawing.{IsDrawn, IsGivenBy, packets_given, counted, drawn_from}
 use Rattle.difi_gateway.specs.declared.drawn.Drawn.{Drawn}
-use Rattle.difi_gateway.specs.declared.telling.Telling.{Telling}
-use Rattle.difi_gateway.specs.declared.telling.Telling.TheVariants as telling
+use Rattle.difi_gateway.specs.Telling.{Telling}
+use Rattle.difi_gateway.specs.Telling as telling
 use Rattle.difi_gateway.specs.declared.stage.Stage.{Stage}
 use Rattle.difi_gateway.specs.declared.stage.Stage.TheVariants as stages
 use Rattle.difi_gateway.proofs.Growth.{copies-append}

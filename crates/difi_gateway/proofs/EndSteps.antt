@@ -23,8 +23,8 @@ use Rattle.difi_gateway.specs.Told.{Item, runs_from, runs_told, told, told_at_en
 use Rattle.difi_gateway.specs.Releases.{Release, copies, all_told, counts_of, part_of, out_of}
 use Rattle.difi_gateway.specs.State.{Gated, StandsFor, IsOf, IsBinder, IsStream, IsIdle, AreBinders, AreBuffers, EndsWith, IsPlaced, calls_with, bytes_taken, stream_at, packet_in, items_in, items_left, told_at_end_of, end_left, end_release}
 use Rattle.difi_gateway.specs.Drawing.{IsEnded, IsEndTold}
-use Rattle.difi_gateway.specs.declared.telling.Telling.{Telling}
-use Rattle.difi_gateway.specs.declared.telling.Telling.TheVariants as telling
+use Rattle.difi_gateway.specs.Telling.{Telling}
+use Rattle.difi_gateway.specs.Telling as telling
 use Rattle.difi_gateway.specs.declared.stage.Stage.{Stage}
 use Rattle.difi_gateway.specs.declared.stage.Stage.TheVariants as stages
 use Rattle.difi_gateway.proofs.DrawSteps.{drop_at, get_set_same, get_set_other}

@@ -10,7 +10,7 @@ use Rattle.difi_gateway.specs.Contents.{Received, IsReceived}
 use Rattle.difi_gateway.specs.Told.{Item, told, told_by}
 use Rattle.difi_gateway.specs.Releases.{Release, copies, counts_of, part_of}
 use Rattle.difi_gateway.specs.State.{Gated, StandsFor, IsAtRest, IsOf, IsPlaced, AreBinders, AreBuffers, items_in, items_left, end_left, copies_left, packet_in, is_ended, bytes_taken}
-use Rattle.difi_gateway.specs.declared.telling.Telling.{Telling}
+use Rattle.difi_gateway.specs.Telling.{Telling}
 use Rattle.difi_gateway.specs.declared.stage.Stage.TheVariants as stages
 use Rattle.difi_gateway.proofs.Growth.{told-append, copies-append}
 

@@ -17,8 +17,8 @@ use Rattle.difi_gateway.specs.Drawing.{MayGoOn}
 use Rattle.difi_gateway.specs.Lent.{IsLeft}
 use Rattle.difi_gateway.specs.Writing.{IsCopyWritten, IsEndWritten, number_of_copies}
 use Rattle.difi_gateway.specs.Progress.{IsDrawnAt, IsMoved, IsNextGiven, IsNoneGiven, IsOnWay, IsOwing, IsSettledAt}
-use Rattle.difi_gateway.specs.declared.telling.Telling.{Telling}
-use Rattle.difi_gateway.specs.declared.telling.Telling.TheVariants as telling
+use Rattle.difi_gateway.specs.Telling.{Telling}
+use Rattle.difi_gateway.specs.Telling as telling
 use Rattle.difi_gateway.specs.declared.stage.Stage.{Stage}
 use Rattle.difi_gateway.specs.declared.stage.Stage.TheVariants as stages
 use Rattle.difi_gateway.proofs.DrawSteps.{form_2}

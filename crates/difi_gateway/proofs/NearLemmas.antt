@@ -30,8 +30,8 @@ use Rattle.difi_gateway.specs.Written.{IsWritableItem}
 use Rattle.difi_gateway.specs.Progress.{IsMoved, records_owed, may_be_told, owed_by_telling, owed_at_stage, steps_left, binders_left, one_where_nothing}
 use Rattle.difi_gateway.specs.declared.drawn.Drawn.{Drawn}
 use Rattle.difi_gateway.specs.declared.drawn.Drawn.TheVariants as drawn
-use Rattle.difi_gateway.specs.declared.telling.Telling.{Telling}
-use Rattle.difi_gateway.specs.declared.telling.Telling.TheVariants as telling
+use Rattle.difi_gateway.specs.Telling.{Telling}
+use Rattle.difi_gateway.specs.Telling as telling
 use Rattle.difi_gateway.specs.declared.stage.Stage.{Stage}
 use Rattle.difi_gateway.specs.declared.stage.Stage.TheVariants as stages
 use Rattle.difi_gateway.proofs.WriteLemmas.{is_on, is_none}

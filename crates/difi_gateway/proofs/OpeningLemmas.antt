@@ -96,9 +96,8 @@ opened_sound head gate values is = record {
 pub opened_rests : (head : RecordHead) (gate : Gated) → IsOpened head gate → IsAtRest gate
 opened_rests head gate is = record { stage = ap (λ (g : Gated). g.stage) is.is_opened; telling = ap (λ (g : Gated). g.telling) is.is_opened }
 
-pub opened_ready : (head : RecordHead) (gate : Gated) (room : ℕ) → AreHeadValues head → IsOpened head gate → room ≡ 262144 → IsReady gate room
-opened_ready head gate room values is longest = record {
+pub opened_ready : (head : RecordHead) (gate : Gated) → AreHeadValues head → IsOpened head gate → IsReady gate
+opened_ready head gate values is = record {
   sound = opened_sound head gate values is;
   ahead = λ quiet. subst (λ s. IsAtHalt s (length gate.binders)) (sym (opened_rests head gate is).stage) tt;
-  longest = longest;
 }

@@ -2,12 +2,12 @@
 use Rattle.std.proofs.Common.{◌≡◌, ◌⊎◌, inl, inr, ℕ, zero, suc, ◌+◌, Bool, true, false, List, [], ◌∷◌, ◌++◌, length, drop, slice_get, Option, Some, None, refl, sym, ap, ◌∙◌, subst, append_assoc, append-nil, arith}
 use Rattle.std.proofs.Math.Seq.{drop-nil}
 use Rattle.std.proofs.lemmas.Option.{get_or_from_slice_get}
-use Rattle.std.specs.Prelude.{◌<◌, ◌^◌, if◌then◌else◌, is_some}
+use Rattle.std.specs.Prelude.{◌<◌, ◌^◌, if◌then◌else◌, is_some, IsTrue}
 use Rattle.vrt_words.specs.Words.{AreBytes}
 use Rattle.vrt_time.specs.Time.{TimeStamp}
 use Rattle.vrt_fields.specs.declared.route.Route.{Route}
 use Rattle.replay_form.specs.FrameFields.{Frame}
-use Rattle.replay_form.specs.Reading.{Reading, held_frame}
+use Rattle.replay_form.specs.Reading.{Reading, IsFrameIn, held_frame}
 use Rattle.replay_form.specs.RecordGrammar.{record_grammar, record_reads}
 use Rattle.replay_form.specs.declared.record_head.RecordHead.{RecordHead}
 use Rattle.record_run.specs.Tells.{GoesOn, KeepsCount, CountsFrame, Puts, PutsEnd, IsSettled}
@@ -18,13 +18,15 @@ use Rattle.release_form.specs.Release.{IsRecordOf}
 use Rattle.difi_gateway.specs.Contents.{Content, IsContent, Received}
 use Rattle.difi_gateway.specs.Releases.{Release, AreRecordsOf, copies, part_of, out_of}
 use Rattle.difi_gateway.specs.State.{Gated, StandsFor, IsAtRest, end_left, is_ended, items_in, items_left, packet_in, releases_of}
-use Rattle.difi_gateway.specs.Progress.{IsAllGiven, IsGiven, IsSettledAt, may_be_told, owed_by_telling, records_owed}
+use Rattle.difi_gateway.specs.Writing.{Appends}
+use Rattle.difi_gateway.specs.Progress.{IsAllGiven, IsGiven, IsNextGiven, IsNoneGiven, IsSettledAt, may_be_told, owed_by_telling, records_owed}
 use Rattle.difi_gateway.specs.Replayed.{replay_of, replay_tells}
 use Rattle.difi_gateway.specs.Replaying.{IsToldAt, IsToldBy, IsToldOpen, is_over, owed_by, taken_by, told_by_gateway}
-use Rattle.difi_gateway.specs.declared.telling.Telling.{Telling}
-use Rattle.difi_gateway.specs.declared.telling.Telling.TheVariants as telling
+use Rattle.difi_gateway.specs.Telling.{Telling}
+use Rattle.difi_gateway.specs.Telling as telling
 use Rattle.difi_gateway.specs.declared.stage.Stage.{Stage}
 use Rattle.difi_gateway.specs.declared.stage.Stage.TheVariants as stages
+use Rattle.difi_gateway.proofs.AdvanceLemmas.{settled_given}
 use Rattle.difi_gateway.proofs.Growth.{end_releases, out-append, part-append}
 
 -- ---- a release that was written
@@ -88,10 +90,6 @@ head_is : (started : Bool) (head other : RecordHead) → started ≡ true → (i
 head_is true head other e same = cc
 head_is false head other e same = cc
 
-frame_is : (whole : Bool) (frame other : Frame) → whole ≡ true → (if whole then Some frame else None) ≡ Some other → frame ≡ other
-frame_is true frame other e same = cc
-frame_is false frame other e same = cc
-
 -- ---- the header
 
 none_so_far : (gateway : Option Gated) (answer : Bool) → answer ≡ is_some gateway → answer ≡ false → gateway ≡ None
@@ -150,12 +148,12 @@ frame_at releases head stamp port datagram old new takes is now later more p =
     subst (λ (b : Bool). IsToldAt b releases old head (record { stamp = stamp; port = port; datagram = datagram } ∷ later) more) (sym is)
     (frame_open releases head stamp port datagram old new takes later more (subst (λ (b : Bool). IsToldAt b releases new head later more) now p))
 
-pub frame_on : (reader : Reading) (head : RecordHead) (frame : Frame) (stamp : TimeStamp) (port : ℕ) (datagram waiting : List ℕ) (old new : Gated)
-    → (reader.whole ≡ true) × (held_frame reader ≡ record { stamp = stamp; port = port; datagram = datagram }) → (record_reads reader).frame ≡ Some frame
+pub frame_on : (reader : Reading) (bytes : List ℕ) (head : RecordHead) (frame : Frame) (stamp : TimeStamp) (port : ℕ) (datagram waiting : List ℕ) (old new : Gated)
+    → (reader.whole ≡ true) × (held_frame reader bytes ≡ record { stamp = stamp; port = port; datagram = datagram }) → (record_reads reader).frame bytes frame
     → TakesFrame stamp port datagram old new → is_ended old.stage ≡ false → is_ended new.stage ≡ false
     → Puts head (frame ∷ []) waiting waiting (told_by_gateway (Some old)) (told_by_gateway (Some new))
-frame_on reader head frame stamp port datagram waiting old new has whole takes is now =
-    let same : record { stamp = stamp; port = port; datagram = datagram } ≡ frame = sym has.1 ∙ frame_is reader.whole (held_frame reader) frame has.0 whole in
+frame_on reader bytes head frame stamp port datagram waiting old new has whole takes is now =
+    let same : record { stamp = stamp; port = port; datagram = datagram } ≡ frame = sym has.1 ∙ sym whole.1.0 in
     subst (λ (f : Frame). Puts head (f ∷ []) waiting waiting (told_by_gateway (Some old)) (told_by_gateway (Some new))) same (record {
       text = [];
       put = sym (append-nil waiting);
@@ -189,37 +187,35 @@ module _ (inside old : Option Gated) (gateway : Gated) (view : inside ≡ old) (
   pub may_take : owed_by old ≡ 0 → is_over old ≡ false → IsAtRest gateway
   may_take owed e = is_at_rest gateway (subst (λ (g : Option Gated). owed_by g ≡ 0) is_old owed) (still_over false e)
 
-  pub may_count : (reader : Reading) (stamp : TimeStamp) (port : ℕ) (datagram : List ℕ)
-      → (reader.whole ≡ true) × (held_frame reader ≡ record { stamp = stamp; port = port; datagram = datagram })
-      → ((frame : Frame) → (record_reads reader).frame ≡ Some frame → taken_by old + 1 + length frame.datagram < 2 ^ 63)
+  pub may_count : (reader : Reading) (bytes : List ℕ) (stamp : TimeStamp) (port : ℕ) (datagram : List ℕ)
+      → (reader.whole ≡ true) × (held_frame reader bytes ≡ record { stamp = stamp; port = port; datagram = datagram })
+      → IsFrameIn reader bytes → ((frame : Frame) → (record_reads reader).frame bytes frame → taken_by old + 1 + length frame.datagram < 2 ^ 63)
       → gateway.taken + 1 + length datagram < 2 ^ 63
-  may_count reader stamp port datagram has count =
-      let whole : (if reader.whole then Some (held_frame reader) else None) ≡ Some (held_frame reader) =
-      ap (λ (b : Bool). if b then Some (held_frame reader) else None) has.0 in
-      let size : length (held_frame reader).datagram ≡ length datagram = ap (λ (f : Frame). length f.datagram) has.1 in
+  may_count reader bytes stamp port datagram has lies count =
+      let size : length (held_frame reader bytes).datagram ≡ length datagram = ap (λ (f : Frame). length f.datagram) has.1 in
       let taken : taken_by old ≡ gateway.taken = ap taken_by is_old in
-      omega (arith, count (held_frame reader) whole, size, taken)
+      omega (arith, count (held_frame reader bytes) (has.0, (refl, lies)), size, taken)
 
-  pub one_counted : (reader : Reading) (frame : Frame) (stamp : TimeStamp) (port : ℕ) (datagram : List ℕ) (new : Gated)
-      → (reader.whole ≡ true) × (held_frame reader ≡ record { stamp = stamp; port = port; datagram = datagram }) → (record_reads reader).frame ≡ Some frame
+  pub one_counted : (reader : Reading) (bytes : List ℕ) (frame : Frame) (stamp : TimeStamp) (port : ℕ) (datagram : List ℕ) (new : Gated)
+      → (reader.whole ≡ true) × (held_frame reader bytes ≡ record { stamp = stamp; port = port; datagram = datagram }) → (record_reads reader).frame bytes frame
       → new.taken ≡ gateway.taken + 1 + length datagram → is_over old ≡ false → is_ended new.stage ≡ false
       → CountsFrame (length frame.datagram) (told_by_gateway old) (told_by_gateway (Some new))
-  one_counted reader frame stamp port datagram new has whole taken e now =
+  one_counted reader bytes frame stamp port datagram new has whole taken e now =
       let size : length frame.datagram ≡ length datagram =
-      ap (λ (f : Frame). length f.datagram) (sym (frame_is reader.whole (held_frame reader) frame has.0 whole) ∙ has.1) in
+      ap (λ (f : Frame). length f.datagram) (whole.1.0 ∙ has.1) in
       let before : taken_by old ≡ gateway.taken = ap taken_by is_old in record {
         count = omega (arith, taken, size, before);
         wants = refl;
         ended = now ∙ sym e;
       }
 
-  pub one_told : (reader : Reading) (head : RecordHead) (frame : Frame) (stamp : TimeStamp) (port : ℕ) (datagram waiting : List ℕ) (new : Gated)
-      → (reader.whole ≡ true) × (held_frame reader ≡ record { stamp = stamp; port = port; datagram = datagram }) → (record_reads reader).frame ≡ Some frame
+  pub one_told : (reader : Reading) (bytes : List ℕ) (head : RecordHead) (frame : Frame) (stamp : TimeStamp) (port : ℕ) (datagram waiting : List ℕ) (new : Gated)
+      → (reader.whole ≡ true) × (held_frame reader bytes ≡ record { stamp = stamp; port = port; datagram = datagram }) → (record_reads reader).frame bytes frame
       → TakesFrame stamp port datagram gateway new → is_over old ≡ false → is_ended new.stage ≡ false
       → Puts head (frame ∷ []) waiting waiting (told_by_gateway old) (told_by_gateway (Some new))
-  one_told reader head frame stamp port datagram waiting new has whole takes e now =
+  one_told reader bytes head frame stamp port datagram waiting new has whole takes e now =
       subst (λ (g : Option Gated). Puts head (frame ∷ []) waiting waiting (told_by_gateway g) (told_by_gateway (Some new))) (sym is_old)
-      (frame_on reader head frame stamp port datagram waiting gateway new has whole takes (still_over false e) now)
+      (frame_on reader bytes head frame stamp port datagram waiting gateway new has whole takes (still_over false e) now)
 
 -- ---- what is owed
 
@@ -340,6 +336,19 @@ module _ (inside old : Option Gated) (gateway : Gated) (view : inside ≡ old) (
       → is_ended new.stage ≡ is_ended gateway.stage → Puts head [] waiting waiting (told_by_gateway old) (told_by_gateway (Some new))
   none_written head waiting new gives same =
       subst (λ (g : Option Gated). Puts head [] waiting waiting (told_by_gateway g) (told_by_gateway (Some new))) (sym was) (none_on head waiting gateway new gives same)
+
+  -- the next release is put, if one is owed
+  pub next_told : (head : RecordHead) (new : Gated) (waiting waiting' : List ℕ) (result : Bool) → (IsTrue result → Appends (λ bytes. IsNextGiven bytes gateway new) waiting waiting')
+      → (result ≡ false → waiting' ≡ waiting) → (result ≡ false → IsNoneGiven gateway new) → Puts head [] waiting waiting' (told_by_gateway old) (told_by_gateway (Some new))
+  next_told head new waiting waiting' true given same none =
+      let p = given refl in
+      one_written head waiting waiting' p.bytes new p.behind p.fit p.is.next p.is.ended
+  next_told head new waiting waiting' false given same none =
+      let n = none refl in
+      subst (λ (w : List ℕ). Puts head [] waiting w (told_by_gateway old) (told_by_gateway (Some new))) (sym (same refl))
+      (none_written head waiting new
+      (λ h received ended given st. (settled_given gateway h received ended given st n.settled, subst (λ (g : Gated). StandsFor g h received ended given) (sym n.same) st))
+      (ap (λ (g : Gated). is_ended g.stage) n.same))
 
   pub count_kept : (new : Gated) → new.taken ≡ gateway.taken → is_ended new.stage ≡ is_ended gateway.stage
       → KeepsCount (told_by_gateway old) (told_by_gateway (Some new))

@@ -17,8 +17,8 @@ use Rattle.difi_gateway.specs.Releases.{Release, copies, all_told, counts_of}
 use Rattle.difi_gateway.specs.State.{Gated, StandsFor, IsBinder, IsIdle, calls_with, is_drawn, is_ended, packet_in, items_in, items_of, items_left, told_at_end_of, end_left, end_release, copies_left, releases_of}
 use Rattle.difi_gateway.specs.Drawing.{IsDrawn, drawn_as, drawn_from}
 use Rattle.difi_gateway.specs.declared.drawn.Drawn.TheVariants as drawn
-use Rattle.difi_gateway.specs.declared.telling.Telling.{Telling}
-use Rattle.difi_gateway.specs.declared.telling.Telling.TheVariants as telling
+use Rattle.difi_gateway.specs.Telling.{Telling}
+use Rattle.difi_gateway.specs.Telling as telling
 use Rattle.difi_gateway.specs.declared.stage.Stage.{Stage}
 use Rattle.difi_gateway.specs.declared.stage.Stage.TheVariants as stages
 use Rattle.difi_gateway.proofs.CopySteps.{one_behind, within_next}

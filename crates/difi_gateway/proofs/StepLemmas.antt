@@ -16,7 +16,7 @@ use Rattle.difi_gateway.specs.Drawing.{IsDrawn, IsGoneOn, IsEndTold, IsUntold, M
 use Rattle.difi_gateway.specs.Writing.{IsCopyWritten, IsEndWritten, number_of_copies}
 use Rattle.difi_gateway.specs.Progress.{IsMoved, records_owed}
 use Rattle.difi_gateway.specs.declared.drawn.Drawn.TheVariants as drawn
-use Rattle.difi_gateway.specs.declared.telling.Telling.TheVariants as telling
+use Rattle.difi_gateway.specs.Telling as telling
 use Rattle.difi_gateway.specs.declared.stage.Stage.{Stage}
 use Rattle.difi_gateway.specs.declared.stage.Stage.TheVariants as stages
 use Rattle.difi_gateway.proofs.WriteLemmas.{is_on, is_none}
@@ -193,8 +193,3 @@ module _ (gate : Gated) (head : RecordHead) (received : List Received) (ended : 
 pub told_stands : (old new : Gated) (head : RecordHead) (received : List Received) (given : ℕ) → StandsFor old head received false given → IsAtRest old → IsEndTold 0 old new
     → StandsFor new head received true given
 told_stands old new head received given st rest told = end_kept old head received given 0 (between_waiting old head received given st rest.stage rest.telling) new told
-
--- what was written stands in front of the room
-pub written_is : (into items : List ℕ) (room n : ℕ) → length into ≡ room → n ≤ length into → take n (take room (into ++ drop (length into) items)) ≡ take n into
-written_is into items room n e le =
-    take-take n room (into ++ drop (length into) items) (omega (arith, e, le)) ∙ take-append-le n into (drop (length into) items) le

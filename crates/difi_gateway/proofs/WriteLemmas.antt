@@ -1,5 +1,7 @@
 -- The copies of what is told, one by one.
-use Rattle.std.proofs.Common.{◌≡◌, inl, inr, ℕ, suc, ◌+◌, ◌-◌, ◌<◌, ◌≤◌, min, true, false, nat_lt, cond, List, [], ◌∷◌, ◌++◌, length, take, drop, map, slice_get, Some, sym, ap, ◌∙◌, subst, arith}
+use Rattle.std.proofs.Common.{◌≡◌, inl, inr, ℕ, suc, ◌+◌, ◌-◌, ◌<◌, ◌≤◌, min, true, false, nat_lt, cond, List, [], ◌∷◌, ◌++◌, length, take, drop, map, slice_get, Option, Some, refl, sym, ap, ◌∙◌, subst, arith}
+use Rattle.std.specs.List.{AllByRecursion}
+use Rattle.vrt_time.specs.Time.{TimeStamp}
 use Rattle.std.proofs.lemmas.Bool.{cases_lt}
 use Rattle.std.proofs.lemmas.Bool.Decides.{nat_tests}
 use Rattle.std.proofs.lemmas.List.{append-nil, length-map, drop-map, drop_all, drop_more, take_all, length-drop}
@@ -8,14 +10,18 @@ use Rattle.vrt_words.specs.Buffer.{Buffer}
 use Rattle.vrt_fields.specs.declared.route.Route.{Route}
 use Rattle.sample_binder.specs.Parts.{payload_of}
 use Rattle.sample_binder.specs.declared.run.Run.{Run}
+use Rattle.release_form.specs.Refusals.{refusal_number}
+use Rattle.release_form.specs.Release.{IsPushed}
+use Rattle.release_form.specs.declared.refusal.Refusal.{Refusal}
 use Rattle.release_form.specs.declared.shown.Shown.{Shown}
 use Rattle.release_form.specs.declared.shown.Shown.TheVariants as shown
 use Rattle.stream_routes.specs.Ports.{IsRouteAt, ports_of}
-use Rattle.difi_gateway.specs.Releases.{copies}
+use Rattle.difi_gateway.specs.Releases.{Release, copies}
 use Rattle.difi_gateway.specs.State.{Gated, packet_in, stream_in, stream_at, items_in, copies_left, IsPlaced}
-use Rattle.difi_gateway.specs.Writing.{number_of_copies, bytes_with, copies_behind, one_copy_on}
-use Rattle.difi_gateway.specs.declared.telling.Telling.{Telling}
-use Rattle.difi_gateway.specs.declared.telling.Telling.TheVariants as telling
+use Rattle.difi_gateway.specs.Written.{CanBeWritten}
+use Rattle.difi_gateway.specs.Writing.{Appends, IsNextCopy, number_of_copies, copies_behind, one_copy_on}
+use Rattle.difi_gateway.specs.Telling.{Telling}
+use Rattle.difi_gateway.specs.Telling as telling
 
 -- ---- the packet that is told
 
@@ -60,25 +66,53 @@ next_of {X} f ports place port e =
     ∙ ap (λ l. f port ∷ l) (sym (drop-map f (place + 1) ports) ∙ ap (drop (place + 1)) (sym (append-nil (map f ports))))
 
 -- the next release is that, for what is told
-abbrev IsNextOf : Gated → Shown → Telling → Type 0
-IsNextOf gate said t =
+abbrev IsNextOf : Gated → Shown → List ℕ → Telling → Type 0
+IsNextOf gate said payload t =
     drop gate.place (copies gate.routes (items_in gate.routes (packet_in gate.empty) t))
-    ≡ record { shown = said; payload = bytes_with (packet_in gate.empty) t } ∷ drop (gate.place + 1) (copies gate.routes (items_in gate.routes (packet_in gate.empty) t))
+    ≡ record { shown = said; payload = payload } ∷ drop (gate.place + 1) (copies gate.routes (items_in gate.routes (packet_in gate.empty) t))
 
 module _ (gate : Gated) (index port : ℕ) (there : slice_get (ports_of gate.routes (stream_at gate.routes index)) gate.place ≡ Some port) where
   pub run_next : (stream lost : ℕ) (run : Run) → stream ≡ stream_at gate.routes index → gate.telling ≡ telling.Run index lost run
-      → IsNextOf gate (shown.Run stream port lost run) gate.telling
+      → IsNextOf gate (shown.Run stream port lost run) (payload_of (packet_in gate.empty)) gate.telling
   run_next stream lost run same e =
-      subst (λ (s : ℕ). IsNextOf gate (shown.Run s port lost run) gate.telling) (sym same)
-      (subst (λ (t : Telling). IsNextOf gate (shown.Run (stream_at gate.routes index) port lost run) t) (sym e)
+      subst (λ (s : ℕ). IsNextOf gate (shown.Run s port lost run) (payload_of (packet_in gate.empty)) gate.telling) (sym same)
+      (subst (λ (t : Telling). IsNextOf gate (shown.Run (stream_at gate.routes index) port lost run) (payload_of (packet_in gate.empty)) t) (sym e)
       (next_of (λ p. record { shown = shown.Run (stream_at gate.routes index) p lost run; payload = payload_of (packet_in gate.empty) })
       (ports_of gate.routes (stream_at gate.routes index)) gate.place port there))
 
-  pub version_next : gate.telling ≡ telling.Version index → IsNextOf gate (shown.Version port) gate.telling
+  pub version_next : gate.telling ≡ telling.Version index → IsNextOf gate (shown.Version port) (packet_in gate.empty) gate.telling
   version_next e =
-      subst (λ (t : Telling). IsNextOf gate (shown.Version port) t) (sym e)
+      subst (λ (t : Telling). IsNextOf gate (shown.Version port) (packet_in gate.empty) t) (sym e)
       (next_of (λ p. record { shown = shown.Version p; payload = packet_in gate.empty })
       (ports_of gate.routes (stream_at gate.routes index)) gate.place port there)
+
+-- a refusal is written once
+module _ (gate : Gated) (frame port : ℕ) (refusal : Refusal) (detail : ℕ) (stamp : Option TimeStamp) where
+  abbrev refused_release : Release
+  refused_release = record { shown = shown.Refused frame port (refusal_number refusal) detail stamp; payload = [] }
+
+  refused_next : gate.telling ≡ telling.Refused frame port refusal detail stamp → IsPlaced gate.routes gate.telling gate.place
+      → copies_left gate ≡ refused_release ∷ copies_behind gate
+  refused_next e placed =
+      let first : gate.place ≡ 0 = subst (λ (t : Telling). IsPlaced gate.routes t gate.place) e placed in
+      subst (λ (t : Telling). drop gate.place (copies gate.routes (items_in gate.routes (packet_in gate.empty) t))
+      ≡ refused_release ∷ drop (gate.place + 1) (copies gate.routes (items_in gate.routes (packet_in gate.empty) t))) (sym e)
+      (subst (λ n. drop n (refused_release ∷ []) ≡ refused_release ∷ drop (n + 1) (refused_release ∷ [])) (sym first) refl)
+
+  pub refused_first : gate.telling ≡ telling.Refused frame port refusal detail stamp → IsPlaced gate.routes gate.telling gate.place
+      → AllByRecursion CanBeWritten (copies_left gate) → (before after : List ℕ) (number : ℕ) → number ≡ refusal_number refusal
+      → IsPushed (shown.Refused frame port number detail stamp) [] before after → Appends (IsNextCopy gate) before after
+  refused_first e placed can before after number is pushed =
+      let next = refused_next e placed in
+      let p : IsPushed (shown.Refused frame port (refusal_number refusal) detail stamp) [] before after =
+      subst (λ n. IsPushed (shown.Refused frame port n detail stamp) [] before after) is pushed in
+      let fits = (subst (AllByRecursion CanBeWritten) next can).0.fits in record {
+        bytes = p.bytes;
+        fit = p.fit;
+        short = omega (arith, p.size_is, fits);
+        behind = p.behind;
+        is = record { release = refused_release; copies_are = next; written = p.is };
+      }
 
 -- ---- how many there are
 

@@ -13,7 +13,7 @@ use Rattle.difi_gateway.specs.State.{Gated}
 use Rattle.difi_gateway.specs.Steps.{more}
 use Rattle.difi_gateway.specs.declared.drawn.Drawn.{Drawn}
 use Rattle.difi_gateway.specs.declared.drawn.Drawn.TheVariants as drawn
-use Rattle.difi_gateway.specs.declared.telling.Telling.TheVariants as telling
+use Rattle.difi_gateway.specs.Telling as telling
 use Rattle.difi_gateway.specs.declared.stage.Stage.{Stage}
 use Rattle.difi_gateway.specs.declared.stage.Stage.TheVariants as stages
 

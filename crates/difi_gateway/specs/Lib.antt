@@ -1,5 +1,6 @@
 pub mod Contents
 pub mod Calls
+pub mod Telling
 pub mod Told
 pub mod Releases
 pub mod Judged

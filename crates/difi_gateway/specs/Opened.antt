@@ -9,7 +9,7 @@ use Rattle.sample_binder.specs.Binder as binder
 use Rattle.sample_binder.specs.Binder.{Bound, number_kept}
 use Rattle.sample_binder.specs.Queue.{owed}
 use Rattle.difi_gateway.specs.State.{Gated, HasRoom, number_of_buffers}
-use Rattle.difi_gateway.specs.declared.telling.Telling.TheVariants as telling
+use Rattle.difi_gateway.specs.Telling as telling
 use Rattle.difi_gateway.specs.declared.stage.Stage.TheVariants as stages
 
 -- a binder of this profile and these limits, to which nothing was given

@@ -11,8 +11,8 @@ use Rattle.difi_gateway.specs.Drawing.{IsDrawn, IsGoneOn}
 use Rattle.difi_gateway.specs.Writing.{number_of_copies}
 use Rattle.difi_gateway.specs.declared.drawn.Drawn.{Drawn}
 use Rattle.difi_gateway.specs.declared.drawn.Drawn.TheVariants as drawn
-use Rattle.difi_gateway.specs.declared.telling.Telling.{Telling}
-use Rattle.difi_gateway.specs.declared.telling.Telling.TheVariants as telling
+use Rattle.difi_gateway.specs.Telling.{Telling}
+use Rattle.difi_gateway.specs.Telling as telling
 use Rattle.difi_gateway.specs.declared.stage.Stage.{Stage}
 use Rattle.difi_gateway.specs.declared.stage.Stage.TheVariants as stages
 

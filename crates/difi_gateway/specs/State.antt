@@ -19,8 +19,8 @@ use Rattle.difi_gateway.specs.Calls.{calls}
 use Rattle.difi_gateway.specs.Datagrams.{HoldBytes}
 use Rattle.difi_gateway.specs.Told.{Item, RefusedItem, RunItem, VersionItem, runs_from, runs_told, told}
 use Rattle.difi_gateway.specs.Releases.{Release, all_told, copies, counts_of, out_of, part_of}
-use Rattle.difi_gateway.specs.declared.telling.Telling.{Telling}
-use Rattle.difi_gateway.specs.declared.telling.Telling.TheVariants as telling
+use Rattle.difi_gateway.specs.Telling.{Telling}
+use Rattle.difi_gateway.specs.Telling as telling
 use Rattle.difi_gateway.specs.declared.stage.Stage.{Stage}
 use Rattle.difi_gateway.specs.declared.stage.Stage.TheVariants as stages
 
@@ -260,8 +260,7 @@ IsAtHalt stages.Over number = Unit {0}
 abbrev pub IsDrawnAhead : Gated → Type 0
 IsDrawnAhead gate = gate.telling ≡ telling.Nothing → IsAtHalt gate.stage (length gate.binders)
 
--- what is true of every gateway, which has room for a record of so many bytes
-pub record IsReady (gate : Gated) (room : ℕ) : Type 0 where
+-- what is true of every gateway
+pub record IsReady (gate : Gated) : Type 0 where
   pub sound : IsSound gate
   pub ahead : IsDrawnAhead gate
-  pub longest : room ≡ 262144

@@ -19,7 +19,8 @@ use Rattle.difi_gateway.specs.Judged.{IsNoPacket}
 use Rattle.difi_gateway.specs.Told.{turned_away}
 use Rattle.difi_gateway.specs.State.{Gated, HasRoom, IsKeptFew}
 use Rattle.difi_gateway.specs.declared.parts.Parts.{Parts}
-use Rattle.difi_gateway.specs.declared.telling.Telling.TheVariants as telling
+use Rattle.difi_gateway.specs.Telling as telling
+use Rattle.difi_gateway.specs.Telling.{told_now}
 use Rattle.difi_gateway.specs.declared.stage.Stage.TheVariants as stages
 
 -- what a contract sees of what a gateway is made of
@@ -33,7 +34,7 @@ gated parts = record {
   capacity = vec_capacity parts.empty;
   counts = parts.counts;
   taken = parts.taken;
-  telling = parts.telling;
+  telling = told_now parts.run parts.telling;
   place = parts.place;
   lost = parts.lost;
   stage = parts.stage;

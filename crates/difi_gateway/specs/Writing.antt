@@ -1,16 +1,14 @@
 -- How a gateway writes what is told now, and the counts at the end.
-use Rattle.std.specs.Prelude.{◌≡◌, ℕ, ◌+◌, ◌≤◌, nat_lt, if◌then◌else◌, List, [], ◌∷◌, length, drop}
-use Rattle.sample_binder.specs.Parts.{payload_of}
+use Rattle.std.specs.Prelude.{◌≡◌, ℕ, ◌+◌, ◌≤◌, nat_lt, if◌then◌else◌, List, [], ◌∷◌, ◌++◌, length, drop}
+use Rattle.vrt_words.specs.Words.{AreBytes}
 use Rattle.release_form.specs.Release.{IsRecordOf}
-use Rattle.release_form.specs.Sizes.{size_with}
 use Rattle.release_form.specs.declared.shown.Shown.TheVariants as shown
 use Rattle.stream_routes.specs.Ports.{ports_at}
 use Rattle.vrt_fields.specs.declared.route.Route.{Route}
 use Rattle.difi_gateway.specs.Releases.{Release, copies}
-use Rattle.difi_gateway.specs.Written.{CanBeWritten}
 use Rattle.difi_gateway.specs.State.{Gated, packet_in, items_in, copies_left, IsPlaced}
-use Rattle.difi_gateway.specs.declared.telling.Telling.{Telling}
-use Rattle.difi_gateway.specs.declared.telling.Telling.TheVariants as telling
+use Rattle.difi_gateway.specs.Telling.{Telling}
+use Rattle.difi_gateway.specs.Telling as telling
 use Rattle.difi_gateway.specs.declared.stage.Stage.TheVariants as stages
 
 -- how many copies there are of what is told
@@ -19,13 +17,6 @@ number_of_copies routes telling.Nothing = 0
 number_of_copies routes (telling.Refused frame port refusal detail stamp) = 1
 number_of_copies routes (telling.Run index lost run) = length (ports_at routes index)
 number_of_copies routes (telling.Version index) = length (ports_at routes index)
-
--- the payload or the packet that goes with what is told
-abbrev pub bytes_with : List ℕ → Telling → List ℕ
-bytes_with packet telling.Nothing = []
-bytes_with packet (telling.Refused frame port refusal detail stamp) = []
-bytes_with packet (telling.Run index lost run) = payload_of packet
-bytes_with packet (telling.Version index) = packet
 
 -- the copies behind the first of those that are left
 abbrev pub copies_behind : Gated → List Release
@@ -37,12 +28,13 @@ one_copy_on old =
     if nat_lt (old.place + 1) (number_of_copies old.routes old.telling) then record old { place = old.place + 1 }
     else record old { telling = telling.Nothing; place = 0 }
 
--- the record of a release can be written into so many bytes
-pub record FitsIn (room : ℕ) (release : Release) : Type 0 where
-  pub can : CanBeWritten release
-  pub within : size_with release.shown (length release.payload) ≤ room
-
 -- the bytes are the record of the first of the copies that are left
+pub record IsNextCopy (gate : Gated) (bytes : List ℕ) : Type 0 where
+  pub release : Release
+  pub copies_are : copies_left gate ≡ release ∷ copies_behind gate
+  pub written : IsRecordOf release.shown release.payload bytes
+
+-- and the next one is told
 pub record IsCopyWritten (bytes : List ℕ) (old new : Gated) : Type 0 where
   pub release : Release
   pub copies_are : copies_left old ≡ release ∷ copies_left new
@@ -54,3 +46,11 @@ pub record IsCopyWritten (bytes : List ℕ) (old new : Gated) : Type 0 where
 pub record IsEndWritten (bytes : List ℕ) (old new : Gated) : Type 0 where
   pub written : IsRecordOf (shown.End old.counts) [] bytes
   pub after : new ≡ record old { stage = stages.Over }
+
+-- bytes of which this is true, at most 262,144, stand behind those before
+pub record Appends (Is : List ℕ → Type 0) (before after : List ℕ) : Type 0 where
+  pub bytes : List ℕ
+  pub fit : AreBytes bytes
+  pub short : length bytes ≤ 262144
+  pub behind : after ≡ before ++ bytes
+  pub is : Is bytes

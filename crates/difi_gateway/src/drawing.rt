@@ -1,15 +1,17 @@
-ghost use Rattle.std.specs.Prelude.{◌≡◌, ℕ, ◌+◌, ◌<◌, ◌≤◌, ◌^◌, length, slice_index, vec_capacity};
+ghost use Rattle.std.specs.Prelude.{◌≡◌, ◌≢◌, Some, ℕ, ◌+◌, ◌<◌, ◌≤◌, ◌^◌, length, slice_index, vec_capacity};
 ghost use Rattle.std.specs.List.{sum_by};
 ghost use Rattle.sample_binder.specs.Binder.{number_kept};
+ghost use Rattle.sample_binder.specs.GivenOut.{out_with};
+ghost use Rattle.sample_binder.specs.declared.out.Given.TheVariants as given;
 ghost use Rattle.difi_gateway.specs.Drawing.{IsGivenBy, counted, IsDrawn, IsUntold, IsEnded, MayBeTold, IsEndTold, MayGoOn, IsGoneOn};
 ghost use Rattle.difi_gateway.specs.Steps.{gated};
-ghost use Rattle.difi_gateway.specs.declared.telling.Telling.TheVariants as telling;
+ghost use Rattle.difi_gateway.specs.Telling as telling;
 
 use crate::drawn::Drawn;
 use crate::parts::Parts;
 use crate::stage::Stage;
 use crate::telling::Telling;
-use sample_binder::{Binder, Out, Run};
+use sample_binder::{Binder, Given, Run};
 
 // Where each of them stands among the counts.
 const BOUND: usize = 1;
@@ -28,37 +30,36 @@ impl Parts {
         requires raw { slice_index self.old.counts 3 < 2 ^ 63 }
         ensures { IsDrawn index result (gated self.old) (gated self.new) }
     {
-        match next_of(&mut self.binders[index]) {
-            Some(Out::Packet { buf, lost }) => {
+        match next_of(&mut self.binders[index], &mut self.run) {
+            Some(Given::Packet { buf, lost }) => {
                 self.empty.push_reserved(buf);
                 self.lost = lost;
                 Drawn::Packet
             }
-            Some(Out::Run(run)) => {
-                self.tell(index, run);
+            Some(Given::Run) => {
+                self.tell(index);
                 Drawn::Run
             }
             None => Drawn::Nothing,
         }
     }
 
-    // Tells a run of the packet in the last of the buffers, and counts it.
-    fn tell(&mut self, index: usize, run: Run)
+    // Tells the run, of the packet in the last of the buffers, and counts it.
+    fn tell(&mut self, index: usize)
         requires bound { slice_index self.old.counts 1 < 2 ^ 63 }
         requires uncertain { slice_index self.old.counts 2 < 2 ^ 63 }
         requires raw { slice_index self.old.counts 3 < 2 ^ 63 }
         ensures { gated self.new ≡ record (gated self.old) {
-          counts = counted run self.old.counts;
-          telling = telling.Run index self.old.lost run;
+          counts = counted self.old.run self.old.counts;
+          telling = telling.Run index self.old.lost self.old.run;
           place = 0;
           lost = 0;
         } }
     {
-        count(&run, &mut self.counts);
+        count(&self.run, &mut self.counts);
         self.telling = Telling::Run {
             index,
             lost: self.lost,
-            run,
         };
         self.place = 0;
         self.lost = 0;
@@ -89,11 +90,12 @@ impl Parts {
     }
 }
 
-// The next output of a binder.
-fn next_of(binder: &mut Binder) -> Option<Out>
-    ensures { IsGivenBy result binder.old binder.new }
+// The next output of a binder. Where it is a run, `run` is.
+fn next_of(binder: &mut Binder, run: &mut Run) -> Option<Given>
+    ensures given { IsGivenBy (out_with result run.new) binder.old binder.new }
+    ensures run { result ≢ Some given.Run → run.new ≡ run.old }
 {
-    binder.next_out()
+    binder.next_into(run)
 }
 
 // A binder is told the end.

@@ -5,18 +5,17 @@ ghost use Rattle.replay_form.specs.declared.record_head.RecordHead.{RecordHead};
 ghost use Rattle.difi_gateway.specs.Contents.{Content, IsContent, Received};
 ghost use Rattle.difi_gateway.specs.Isolation.{IsApart};
 ghost use Rattle.difi_gateway.specs.State.{StandsFor, IsAtRest, is_ended, releases_of};
-ghost use Rattle.difi_gateway.specs.Progress.{IsGiven, IsAllGiven, IsSettledAt};
+ghost use Rattle.difi_gateway.specs.Progress.{IsGiven, IsAllGiven, IsNextGiven, IsNoneGiven, IsSettledAt};
+ghost use Rattle.difi_gateway.specs.Writing.{Appends};
 
-use crate::opening::{open_parts, zeros};
+use crate::opening::open_parts;
 use crate::parts::Parts;
 use replay_form::RecordHead;
 use std::alloc::Global;
 use std::marker::Model;
+use text_buffer::TextBuffer;
 use vrt_time::Stamp;
 use vrt_words::NoMemory;
-
-/// No release record has more bytes.
-const LONGEST: usize = 262_144;
 
 /// The gateway: it takes the frames of a record, one by one, and gives the release records that each of
 /// them makes due.
@@ -25,12 +24,11 @@ const LONGEST: usize = 262_144;
 #[derive(Drop)]
 pub struct Gateway {
     parts: Parts,
-    // The record that was given last stands at its front.
-    room: Vec<u8>,
+    // The record that was lent last.
+    room: TextBuffer,
 }
 
 impl Model for Gateway {
-    ghost use Rattle.std.specs.Prelude.{vec_len};
     ghost use Rattle.difi_gateway.specs.State.{Gated, IsReady};
     ghost use Rattle.difi_gateway.specs.Steps.{gated};
 
@@ -38,7 +36,7 @@ impl Model for Gateway {
 
     ghost view = { λ g. gated g.parts };
 
-    ghost invariant = { λ g. IsReady (gated g.parts) (vec_len g.room) };
+    ghost invariant = { λ g. IsReady (gated g.parts) };
 }
 
 impl Gateway {
@@ -51,7 +49,7 @@ impl Gateway {
         ensures rest { IfOk result (λ gateway. IsAtRest gateway) }
     {
         let parts = open_parts(alloc, head)?;
-        let room = zeros(alloc, LONGEST)?;
+        let room = TextBuffer::open(alloc)?;
         Ok(Gateway { parts, room })
     }
 
@@ -115,9 +113,21 @@ impl Gateway {
         // What it stands for then, and where it stands.
         ensures* leaves { sem 𝓛 (Leaves self.entry result) }
     {
-        let Some(size) = self.parts.write_next(&mut self.room) else {
+        self.room.clear();
+        if !self.parts.put_next(&mut self.room) {
             return None;
-        };
-        Some(&self.room[..size])
+        }
+        Some(self.room.as_slice())
+    }
+
+    /// Puts the next release record behind the bytes of a buffer. False exactly where nothing is owed,
+    /// and then nothing has changed.
+    pub(crate) fn put_record(&mut self, out: &mut TextBuffer) -> bool
+        requires { length out.old ≤ 65536 }
+        ensures given { IsTrue result → Appends (λ bytes. IsNextGiven bytes self.old self.new) out.old out.new }
+        ensures same { result ≡ false → out.new ≡ out.old }
+        ensures none { result ≡ false → IsNoneGiven self.old self.new }
+    {
+        self.parts.put_next(out)
     }
 }

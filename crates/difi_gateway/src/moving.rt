@@ -1,22 +1,24 @@
-ghost use Rattle.std.specs.Prelude.{◌≡◌, ◌≢◌, IsTrue, false, ℕ, ◌+◌, ◌<◌, ◌≤◌, ◌^◌, length, slice_index, take, vec_capacity, IfSome, IfNone};
+ghost use Rattle.std.specs.Prelude.{◌≡◌, ◌≢◌, IsTrue, false, ℕ, ◌+◌, ◌<◌, ◌≤◌, ◌^◌, length, slice_index, vec_capacity, IfSome, IfNone};
 ghost use Rattle.std.specs.List.{sum_by};
 ghost use Rattle.sample_binder.specs.Binder.{number_kept};
 ghost use Rattle.difi_gateway.specs.State.{IsSound, IsDrawnAhead, IsWithin};
 ghost use Rattle.difi_gateway.specs.Drawing.{MayGoOn};
 ghost use Rattle.difi_gateway.specs.Progress.{IsMoved, IsDrawnAt, IsOnWay, IsNextGiven, IsNoneGiven, IsOwing, IsSettledAt};
 ghost use Rattle.difi_gateway.specs.Steps.{gated};
-ghost use Rattle.difi_gateway.specs.declared.telling.Telling.TheVariants as telling;
+ghost use Rattle.difi_gateway.specs.Writing.{Appends};
+ghost use Rattle.difi_gateway.specs.Telling as telling;
 
 use crate::drawn::Drawn;
 use crate::parts::Parts;
 use crate::stage::Stage;
 use crate::telling::Telling;
+use text_buffer::TextBuffer;
 
 impl Parts {
     /// Whether something is told now.
     pub fn tells(&self) -> bool
-        ensures told { IsTrue result → self.now.telling ≢ telling.Nothing }
-        ensures quiet { result ≡ false → self.now.telling ≡ telling.Nothing }
+        ensures told { IsTrue result → (gated self.now).telling ≢ telling.Nothing }
+        ensures quiet { result ≡ false → (gated self.now).telling ≡ telling.Nothing }
     {
         !matches!(self.telling, Telling::Nothing)
     }
@@ -88,39 +90,60 @@ impl Parts {
         }
     }
 
-    /// Writes the next release record at the front of `into`, and draws ahead. Its length in bytes, or
-    /// `None` where nothing is owed.
-    pub fn write_next(&mut self, into: &mut [u8]) -> Option<usize>
+    /// Puts the next release record behind the bytes of a buffer, and draws ahead. False where nothing
+    /// is owed.
+    pub fn put_next(&mut self, out: &mut TextBuffer) -> bool
         requires sound { IsSound (gated self.old) }
         requires ahead { IsDrawnAhead (gated self.old) }
-        requires longest { length into.old ≡ 262144 }
-        ensures given { IfSome result (λ size. IsNextGiven (take size into.new) (gated self.old) (gated self.new)) }
-        ensures room { IfSome result (λ size. size ≤ length into.new) }
-        ensures ahead { IfSome result (λ size. IsDrawnAhead (gated self.new)) }
-        ensures none { IfNone result (IsNoneGiven (gated self.old) (gated self.new)) }
+        requires room { length out.old ≤ 65536 }
+        ensures given { IsTrue result → Appends (λ bytes. IsNextGiven bytes (gated self.old) (gated self.new)) out.old out.new }
+        ensures sound { IsSound (gated self.new) }
+        ensures ahead { IsDrawnAhead (gated self.new) }
+        ensures same { result ≡ false → out.new ≡ out.old }
+        ensures none { result ≡ false → IsNoneGiven (gated self.old) (gated self.new) }
     {
-        let Some(size) = self.write_owed(into) else {
-            return None;
-        };
+        if !self.put_owed(out) {
+            return false;
+        }
         self.draw_ahead();
-        Some(size)
+        true
     }
 
     // The same, and draws nothing.
-    fn write_owed(&mut self, into: &mut [u8]) -> Option<usize>
+    fn put_owed(&mut self, out: &mut TextBuffer) -> bool
         requires sound { IsSound (gated self.old) }
         requires ahead { IsDrawnAhead (gated self.old) }
-        requires longest { length into.old ≡ 262144 }
-        ensures given { IfSome result (λ size. IsNextGiven (take size into.new) (gated self.old) (gated self.new)) }
-        ensures room { IfSome result (λ size. size ≤ length into.new) }
-        ensures none { IfNone result (IsNoneGiven (gated self.old) (gated self.new)) }
+        requires room { length out.old ≤ 65536 }
+        ensures given { IsTrue result → Appends (λ bytes. IsNextGiven bytes (gated self.old) (gated self.new)) out.old out.new }
+        ensures sound { IsSound (gated self.new) }
+        ensures same { result ≡ false → out.new ≡ out.old }
+        ensures none { result ≡ false → IsNoneGiven (gated self.old) (gated self.new) }
     {
         if self.tells() {
-            return Some(self.write_copy(into));
+            self.put_copy(out);
+            true
+        } else {
+            self.put_counts(out)
         }
+    }
+
+    // Puts the counts, where they alone are left. Nothing is told.
+    fn put_counts(&mut self, out: &mut TextBuffer) -> bool
+        requires sound { IsSound (gated self.old) }
+        requires ahead { IsDrawnAhead (gated self.old) }
+        requires quiet { (gated self.old).telling ≡ telling.Nothing }
+        requires room { length out.old ≤ 65536 }
+        ensures given { IsTrue result → Appends (λ bytes. IsNextGiven bytes (gated self.old) (gated self.new)) out.old out.new }
+        ensures sound { IsSound (gated self.new) }
+        ensures same { result ≡ false → out.new ≡ out.old }
+        ensures none { result ≡ false → IsNoneGiven (gated self.old) (gated self.new) }
+    {
         match self.stage {
-            Stage::Waiting | Stage::Drawing { .. } | Stage::Over => None,
-            Stage::Ending { .. } => Some(self.write_end(into)),
+            Stage::Ending { .. } => {
+                self.put_end(out);
+                true
+            }
+            Stage::Over | Stage::Drawing { .. } | Stage::Waiting => false,
         }
     }
 }

@@ -10,7 +10,7 @@ use crate::parts::Parts;
 use crate::stage::Stage;
 use crate::telling::Telling;
 use replay_form::RecordHead;
-use sample_binder::Binder;
+use sample_binder::{Binder, Run};
 use std::alloc::Global;
 use stream_routes::{Routes, routes_of_form_1_are_of_form_2};
 use vrt_fields::Limits;
@@ -34,6 +34,7 @@ pub(crate) fn open_parts(alloc: Global, head: &RecordHead) -> Result<Parts, NoMe
         counts: [0; 7],
         taken: 0,
         telling: Telling::Nothing,
+        run: Run::blank(),
         place: 0,
         lost: 0,
         stage: Stage::Waiting,
@@ -91,14 +92,4 @@ fn open_buffers(alloc: Global, max_words: u32, number: usize) -> Result<Vec<Pack
         buffers.push_reserved(PacketBuf::open(alloc, max_words)?);
     }
     Ok(buffers)
-}
-
-/// So many bytes of 0.
-pub(crate) fn zeros(alloc: Global, number: usize) -> Result<Vec<u8>, NoMemory>
-    ensures { IfOk result (λ bytes. vec_len bytes ≡ number) }
-{
-    match vec![in alloc; 0; number] {
-        Ok(bytes) => Ok(bytes),
-        Err(_) => Err(NoMemory),
-    }
 }

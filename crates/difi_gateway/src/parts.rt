@@ -15,7 +15,7 @@ use crate::telling::Telling;
 use difi_context::ContextRec;
 use difi_packet::Packet;
 use release_form::Refusal;
-use sample_binder::{Binder, Turned};
+use sample_binder::{Binder, Run, Turned};
 use stream_routes::Routes;
 use vrt_header::Profile;
 use vrt_time::Stamp;
@@ -44,6 +44,8 @@ pub(crate) struct Parts {
     /// How many frames and bytes of datagrams were taken.
     pub taken: u64,
     pub telling: Telling,
+    /// The run that was drawn last.
+    pub run: Run,
     /// How many copies of it were told.
     pub place: usize,
     /// The number lost before the packet whose runs are told, until it is told.

@@ -1,6 +1,3 @@
-ghost use Rattle.std.specs.Prelude.{◌≡◌, ◌≤◌, ◌+◌, ◌++◌, length};
-ghost use Rattle.vrt_words.specs.Words.{AreBytes};
-
 use crate::gateway::Gateway;
 use record_run::Teller;
 use replay_form::RecordReader;
@@ -60,8 +57,14 @@ impl Teller<RecordReader> for Replay {
         Ok(())
     }
 
-    fn frame(&mut self, _alloc: Global, intake: &RecordReader, _out: &mut TextBuffer) {
-        let Some(received) = intake.frame() else {
+    fn frame(
+        &mut self,
+        _alloc: Global,
+        intake: &RecordReader,
+        bytes: &[u8],
+        _out: &mut TextBuffer,
+    ) {
+        let Some(received) = intake.frame(bytes) else {
             unreachable!()
         };
         let (moment, port, datagram) = received;
@@ -82,20 +85,6 @@ impl Teller<RecordReader> for Replay {
         let Some(gateway) = &mut self.gateway else {
             unreachable!()
         };
-        let Some(bytes) = gateway.next_record() else {
-            return false;
-        };
-        put(out, bytes);
-        true
+        gateway.put_record(out)
     }
-}
-
-// Puts the bytes of a release record behind those that wait.
-#[inline]
-fn put(out: &mut TextBuffer, release: &[u8])
-    requires { length out.old + length release.now ≤ 327680 }
-    ensures put { out.new ≡ out.old ++ release.now }
-    ensures bytes { AreBytes release.now }
-{
-    out.push(release);
 }

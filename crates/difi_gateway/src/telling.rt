@@ -1,5 +1,4 @@
 use release_form::Refusal;
-use sample_binder::Run;
 use vrt_time::Stamp;
 
 /// What is told now, once for each port of its stream, and a refusal once.
@@ -20,14 +19,13 @@ pub enum Telling {
         /// The last released stamp, where the packet is late.
         stamp: Option<Stamp>,
     },
-    /// Samples of a data packet, or a whole one, of the stream of this route.
+    /// Samples of a data packet, or a whole one, of the stream of this route: the run that was drawn
+    /// last.
     Run {
         /// The index of the route.
         index: usize,
         /// The number of data packets lost before it.
         lost: u8,
-        /// The samples, and what is known of them.
-        run: Run,
     },
     /// A version packet of the stream of this route.
     Version {

@@ -1,55 +1,57 @@
-ghost use Rattle.std.specs.Prelude.{◌≡◌, ◌≢◌, ℕ, ◌+◌, ◌<◌, ◌≤◌, List, [], ◌∷◌, length, take};
+ghost use Rattle.std.specs.Prelude.{◌≡◌, ◌≢◌, ℕ, ◌+◌, ◌<◌, ◌≤◌, List, [], ◌∷◌, length};
 ghost use Rattle.std.specs.List.{AllByRecursion};
 ghost use Rattle.sample_binder.specs.Parts.{payload_of};
 ghost use Rattle.difi_gateway.specs.Releases.{copies};
 ghost use Rattle.difi_gateway.specs.State.{packet_in, items_in, copies_left, IsPlaced};
 ghost use Rattle.difi_gateway.specs.Steps.{gated};
-ghost use Rattle.difi_gateway.specs.Writing.{number_of_copies, bytes_with, copies_behind, one_copy_on, FitsIn, IsCopyWritten, IsEndWritten};
-ghost use Rattle.difi_gateway.specs.declared.telling.Telling.TheVariants as telling;
+ghost use Rattle.release_form.specs.declared.shown.Shown.TheVariants as shown;
+ghost use Rattle.difi_gateway.specs.Written.{CanBeWritten};
+ghost use Rattle.difi_gateway.specs.Writing.{number_of_copies, copies_behind, one_copy_on, IsNextCopy, IsCopyWritten, IsEndWritten, Appends};
+ghost use Rattle.difi_gateway.specs.Telling as telling;
 
 use crate::parts::Parts;
 use crate::stage::Stage;
 use crate::telling::Telling;
-use release_form::{Shown, encode};
+use release_form::{Shown, push_record, push_run};
+use text_buffer::TextBuffer;
 use vrt_words::PacketBuf;
 
 // The bytes of a data packet in front of its payload.
 const PROLOGUE: usize = 28;
 
 impl Parts {
-    /// Writes the next copy of what is told at the front of `into`, and answers its length in bytes.
-    pub fn write_copy(&mut self, into: &mut [u8]) -> usize
-        requires told { self.old.telling ≢ telling.Nothing }
-        requires placed { IsPlaced self.old.routes self.old.telling self.old.place }
-        requires fits { AllByRecursion (FitsIn (length into.old)) (copies_left (gated self.old)) }
-        ensures written { IsCopyWritten (take result into.new) (gated self.old) (gated self.new) }
-        ensures room { result ≤ length into.new }
+    /// Puts the record of the next copy of what is told behind the bytes of a buffer.
+    pub fn put_copy(&mut self, out: &mut TextBuffer)
+        requires told { (gated self.old).telling ≢ telling.Nothing }
+        requires placed { IsPlaced self.old.routes (gated self.old).telling self.old.place }
+        requires can { AllByRecursion CanBeWritten (copies_left (gated self.old)) }
+        requires room { length out.old ≤ 65536 }
+        ensures { Appends (λ bytes. IsCopyWritten bytes (gated self.old) (gated self.new)) out.old out.new }
     {
-        let shown = self.shown();
-        let size = encode(&shown, self.bytes(), into);
+        self.put_first(out);
         self.go_to_next_copy();
-        size
     }
 
-    /// Writes the counts at the front of `into`, and answers the length in bytes. All was told.
-    pub fn write_end(&mut self, into: &mut [u8]) -> usize
-        requires { 64 ≤ length into.old }
-        ensures written { IsEndWritten (take result into.new) (gated self.old) (gated self.new) }
-        ensures room { result ≤ length into.new }
+    /// Puts the record of the counts behind the bytes of a buffer. All was told.
+    pub fn put_end(&mut self, out: &mut TextBuffer)
+        requires { length out.old ≤ 65536 }
+        ensures { Appends (λ bytes. IsEndWritten bytes (gated self.old) (gated self.new)) out.old out.new }
     {
         let shown = Shown::End {
             counts: self.counts,
         };
+        push_record(&shown, &[], out);
         self.stage = Stage::Over;
-        encode(&shown, &[], into)
     }
 
-    // What the next copy says.
-    fn shown(&self) -> Shown
-        requires told { self.now.telling ≢ telling.Nothing }
-        requires placed { IsPlaced self.now.routes self.now.telling self.now.place }
-        ensures { copies_left (gated self.now)
-            ≡ record { shown = result; payload = bytes_with (packet_in self.now.empty.items) self.now.telling } ∷ copies_behind (gated self.now) }
+    // The same as `put_copy`, and tells it still.
+    #[inline]
+    fn put_first(&self, out: &mut TextBuffer)
+        requires told { (gated self.now).telling ≢ telling.Nothing }
+        requires placed { IsPlaced self.now.routes (gated self.now).telling self.now.place }
+        requires can { AllByRecursion CanBeWritten (copies_left (gated self.now)) }
+        requires room { length out.old ≤ 65536 }
+        ensures { Appends (IsNextCopy (gated self.now)) out.old out.new }
     {
         match self.telling {
             Telling::Nothing => unreachable!(),
@@ -59,43 +61,66 @@ impl Parts {
                 refusal,
                 detail,
                 stamp,
-            } => Shown::Refused {
-                frame,
-                port,
-                reason: refusal.number(),
-                detail,
-                stamp,
-            },
-            Telling::Run { index, lost, run } => Shown::Run {
-                stream: self.routes.stream(index),
-                port: self.routes.port(index, self.place),
-                lost,
-                run,
-            },
-            Telling::Version { index } => Shown::Version {
-                port: self.routes.port(index, self.place),
-            },
+            } => {
+                let shown = Shown::Refused {
+                    frame,
+                    port,
+                    reason: refusal.number(),
+                    detail,
+                    stamp,
+                };
+                push_record(&shown, &[], out);
+            }
+            Telling::Run { index, lost } => {
+                let (stream, port) = self.destination(index, lost);
+                push_run(stream, port, lost, &self.run, self.payload(), out);
+            }
+            Telling::Version { index } => {
+                let shown = self.version(index);
+                push_record(&shown, last_packet(&self.empty), out);
+            }
         }
     }
 
-    // The payload or the packet that goes with it.
-    fn bytes(&self) -> &[u8]
-        ensures { result.now ≡ bytes_with (packet_in self.now.empty.items) self.now.telling }
+    // The stream of the run that is told, and the port of its next copy.
+    fn destination(&self, index: usize, lost: u8) -> (u32, u16)
+        requires told { (gated self.now).telling ≡ telling.Run index lost self.now.run }
+        requires placed { IsPlaced self.now.routes (gated self.now).telling self.now.place }
+        ensures { copies_left (gated self.now)
+            ≡ record { shown = shown.Run result.0 result.1 lost self.now.run; payload = payload_of (packet_in self.now.empty.items) } ∷ copies_behind (gated self.now) }
     {
-        match self.telling {
-            Telling::Nothing | Telling::Refused { .. } => &[],
-            Telling::Run { .. } => payload_in(last_packet(&self.empty)),
-            Telling::Version { .. } => last_packet(&self.empty),
+        (
+            self.routes.stream(index),
+            self.routes.port(index, self.place),
+        )
+    }
+
+    // What the next copy of the version packet says that is told.
+    fn version(&self, index: usize) -> Shown
+        requires told { (gated self.now).telling ≡ telling.Version index }
+        requires placed { IsPlaced self.now.routes (gated self.now).telling self.now.place }
+        ensures { copies_left (gated self.now)
+            ≡ record { shown = result; payload = packet_in self.now.empty.items } ∷ copies_behind (gated self.now) }
+    {
+        Shown::Version {
+            port: self.routes.port(index, self.place),
         }
+    }
+
+    // The payload of the data packet whose run is told.
+    fn payload(&self) -> &[u8]
+        ensures { result.now ≡ payload_of (packet_in self.now.empty.items) }
+    {
+        payload_in(last_packet(&self.empty))
     }
 
     // Tells the next copy, or nothing behind the last one.
     fn go_to_next_copy(&mut self)
-        requires told { self.old.telling ≢ telling.Nothing }
-        requires placed { IsPlaced self.old.routes self.old.telling self.old.place }
+        requires told { (gated self.old).telling ≢ telling.Nothing }
+        requires placed { IsPlaced self.old.routes (gated self.old).telling self.old.place }
         ensures after { gated self.new ≡ one_copy_on (gated self.old) }
         ensures copies { copies_left (gated self.new) ≡ copies_behind (gated self.old) }
-        ensures placed { IsPlaced self.new.routes self.new.telling self.new.place }
+        ensures placed { IsPlaced self.new.routes (gated self.new).telling self.new.place }
     {
         let number = self.number_of_copies();
         if self.place + 1 < number {
@@ -108,10 +133,10 @@ impl Parts {
 
     // How many copies there are of what is told.
     fn number_of_copies(&self) -> usize
-        requires placed { IsPlaced self.now.routes self.now.telling self.now.place }
-        ensures number { result ≡ number_of_copies self.now.routes self.now.telling }
-        ensures more { self.now.telling ≢ telling.Nothing → self.now.place < result }
-        ensures copies { (packet : List ℕ) → length (copies self.now.routes (items_in self.now.routes packet self.now.telling)) ≡ result }
+        requires placed { IsPlaced self.now.routes (gated self.now).telling self.now.place }
+        ensures number { result ≡ number_of_copies self.now.routes (gated self.now).telling }
+        ensures more { (gated self.now).telling ≢ telling.Nothing → self.now.place < result }
+        ensures copies { (packet : List ℕ) → length (copies self.now.routes (items_in self.now.routes packet (gated self.now).telling)) ≡ result }
     {
         match self.telling {
             Telling::Nothing => 0,

@@ -1,9 +1,9 @@
 -- Bytes that are fed, and what is told of them.
-use Rattle.std.proofs.Common.{◌≡◌, ℕ, ◌<◌, ◌≤◌, List, [], ◌∷◌, ◌++◌, length, take, drop, refl, sym, ap, ◌∙◌, subst, append_assoc, append-nil, length-append, take-append-drop, take_all, arith}
+use Rattle.std.proofs.Common.{◌≡◌, ℕ, ◌+◌, ◌^◌, ◌<◌, ◌≤◌, List, [], ◌∷◌, ◌++◌, length, take, drop, refl, sym, ap, ◌∙◌, subst, append_assoc, append-nil, length-append, take-append-drop, take_all, arith}
 use Rattle.std.specs.Prelude.{Result, Option, Some, None, Ok, Err, ◌==◌, true, false}
 use Rattle.record_run.specs.declared.reading.Stop.{Stop}
 use Rattle.record_run.specs.declared.reading.Stop.TheVariants as stops
-use Rattle.replay_form.specs.Grammar.{Grammar, Reads, HasWhole, IsMore, IsHeadRead, IsFrameRead, IsWrong}
+use Rattle.replay_form.specs.Grammar.{Grammar, Reads, HasWhole, IsMore, IsHeadRead, IsFrameRead, IsWrong, TakesFront, AreReads}
 use Rattle.record_run.specs.Tells.{Tells, GoesOn, IsSettled, PutsEnd}
 use Rattle.record_run.specs.Steps.{Way, Sends, IsReady, IsGoing, HeadStays, IsPut, IsEnd, IsFed, IsTold, IsStopped, IsFedAs, IsFedOnce}
 use Rattle.record_run.specs.Progress.{IsSent}
@@ -65,6 +65,14 @@ frame_fed grammar bytes count reads reads' tells tells' way way' taken frames re
   going = subst (λ (h : Option _). IsGoing h (read.is ∷ []) told.0 tells tells') (sym read.head) told.1.0;
   sends = told.1.1;
 }
+
+-- of the frame that was read no more may be counted than the bytes that were given
+pub counts_within : {H F : Type 0} (grammar : Grammar H F) (bytes : List ℕ) (count : ℕ) (reads reads' : Reads H F) (tells : Tells H F) (frame : F)
+    → (read : IsFrameRead grammar bytes count reads reads') → reads'.frame (take count bytes) frame → AreReads grammar reads' → IsReady reads tells
+    → TakesFront bytes count reads reads' → reads.given + length bytes < 2 ^ 63 → tells.count + 1 + grammar.size frame < 2 ^ 63
+counts_within grammar bytes count reads reads' tells frame read whole so_far ready front small =
+    let same : grammar.size frame ≡ grammar.size read.is = ap grammar.size (so_far.one (take count bytes) frame read.is whole read.frame) in
+    omega (arith, same, read.whole, so_far.within, ready.counted, front.few, front.given, small)
 
 pub wrong_fed : {H F : Type 0} (grammar : Grammar H F) (bytes : List ℕ) (offset : ℕ) (reads : Reads H F) (tells : Tells H F) (way : Way) (taken : List ℕ) (frames : List F)
     → IsWrong grammar bytes offset reads → IsReady reads tells → reads.stands taken frames → IsStopped grammar offset bytes reads tells tells way way taken frames

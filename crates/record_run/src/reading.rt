@@ -89,7 +89,7 @@ fn feed_once<I: Intake, T: Teller<I>, K: Sink>(
             Err(NoMemory) => Err(Stop::Memory),
         },
         Ok((count, Event::Frame)) => {
-            tell_frame(alloc, intake, teller, out, sink);
+            tell_frame(alloc, intake, teller, &bytes[..count], out, sink);
             Ok(count)
         }
         Err(fault) => Err(Stop::Wrong {
@@ -125,27 +125,28 @@ fn tell_head<I: Intake, T: Teller<I>, K: Sink>(
     }
 }
 
-// Tells of the frame that is whole.
+// Tells of the frame that is whole with these bytes.
 fn tell_frame<I: Intake, T: Teller<I>, K: Sink>(
     alloc: Global,
     intake: &I,
     teller: &mut T,
+    bytes: &[u8],
     out: &mut Outgoing,
     sink: &mut K,
 )
     requires room { length out.old.text < 65536 }
-    requires count { (frame : I.Frame) → (I.reads intake.now).frame ≡ Some frame → (T.tells teller.old).count + 1 + I.grammar.size frame < 2 ^ 63 }
+    requires count { (frame : I.Frame) → (I.reads intake.now).frame bytes.now frame → (T.tells teller.old).count + 1 + I.grammar.size frame < 2 ^ 63 }
     requires open { (T.tells teller.old).ended ≡ false }
     requires settled { IsSettled (T.tells teller.old) }
-    requires whole { (head : I.Head) × (frame : I.Frame) × ((I.reads intake.now).head ≡ Some head) × ((I.reads intake.now).frame ≡ Some frame) }
+    requires whole { (head : I.Head) × (frame : I.Frame) × ((I.reads intake.now).head ≡ Some head) × ((I.reads intake.now).frame bytes.now frame) }
     ensures room { length out.new.text < 65536 }
-    ensures counts { (frame : I.Frame) → (I.reads intake.now).frame ≡ Some frame → CountsFrame (I.grammar.size frame) (T.tells teller.old) (T.tells teller.new) }
+    ensures counts { (frame : I.Frame) → (I.reads intake.now).frame bytes.now frame → CountsFrame (I.grammar.size frame) (T.tells teller.old) (T.tells teller.new) }
     ensures settled { IsSettled (T.tells teller.new) }
-    ensures told { (head : I.Head) (frame : I.Frame) → (I.reads intake.now).head ≡ Some head → (I.reads intake.now).frame ≡ Some frame →
+    ensures told { (head : I.Head) (frame : I.Frame) → (I.reads intake.now).head ≡ Some head → (I.reads intake.now).frame bytes.now frame →
         (text : List ℕ) × (GoesOn head (frame ∷ []) text (T.tells teller.old) (T.tells teller.new)
         × Sends text (way_of out.old (K.held sink.old) (K.faults sink.old)) (way_of out.new (K.held sink.new) (K.faults sink.new))) }
 {
-    teller.frame(alloc, intake, &mut out.text);
+    teller.frame(alloc, intake, bytes, &mut out.text);
     settle(alloc, teller, out, sink);
 }
 

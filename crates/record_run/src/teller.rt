@@ -27,16 +27,16 @@ pub trait Teller<I: Intake> {
             GoesOn head [] [] (tells self.old) (tells self.new)) }
         ensures starts { OnOk result ((tells self.new).started ≡ true) };
 
-    /// Tells of the frame that the intake made whole.
-    fn frame(&mut self, alloc: Global, intake: &I, out: &mut TextBuffer)
+    /// Tells of the frame that the intake made whole, with the bytes that it took last.
+    fn frame(&mut self, alloc: Global, intake: &I, bytes: &[u8], out: &mut TextBuffer)
         requires room { length out.old < 65536 }
-        requires count { (frame : I.Frame) → (I.reads intake.now).frame ≡ Some frame → (tells self.old).count + 1 + I.grammar.size frame < 2 ^ 63 }
+        requires count { (frame : I.Frame) → (I.reads intake.now).frame bytes.now frame → (tells self.old).count + 1 + I.grammar.size frame < 2 ^ 63 }
         requires open { (tells self.old).ended ≡ false }
         requires settled { IsSettled (tells self.old) }
-        requires whole { (head : I.Head) × (frame : I.Frame) × ((I.reads intake.now).head ≡ Some head) × ((I.reads intake.now).frame ≡ Some frame) }
-        ensures counts { (frame : I.Frame) → (I.reads intake.now).frame ≡ Some frame → CountsFrame (I.grammar.size frame) (tells self.old) (tells self.new) }
+        requires whole { (head : I.Head) × (frame : I.Frame) × ((I.reads intake.now).head ≡ Some head) × ((I.reads intake.now).frame bytes.now frame) }
+        ensures counts { (frame : I.Frame) → (I.reads intake.now).frame bytes.now frame → CountsFrame (I.grammar.size frame) (tells self.old) (tells self.new) }
         ensures started { (tells self.new).started ≡ true }
-        ensures told { (head : I.Head) (frame : I.Frame) → (I.reads intake.now).head ≡ Some head → (I.reads intake.now).frame ≡ Some frame →
+        ensures told { (head : I.Head) (frame : I.Frame) → (I.reads intake.now).head ≡ Some head → (I.reads intake.now).frame bytes.now frame →
             Puts head (frame ∷ []) out.old out.new (tells self.old) (tells self.new) };
 
     /// Tells that no more frames are to come.

@@ -107,7 +107,7 @@ impl<I: Intake> Teller<I> for TrialTeller {
         Ok(())
     }
 
-    fn frame(&mut self, _alloc: Global, _intake: &I, out: &mut TextBuffer) {
+    fn frame(&mut self, _alloc: Global, _intake: &I, _bytes: &[u8], out: &mut TextBuffer) {
         self.told += 1;
         put_number(out, b"frame ", self.told);
         self.owes = true;

@@ -4,7 +4,7 @@ use Rattle.std.proofs.lemmas.List.{length-drop}
 use Rattle.vrt_time.specs.Time.{TimeStamp, stamp_of}
 use Rattle.replay_form.specs.Numbers.{number_at}
 use Rattle.replay_form.proofs.NumberLaws.{number_at-take}
-use Rattle.replay_form.specs.FrameFields.{Frame, IsFrame, IsFrameGood, IsWholeFrame, frame_field}
+use Rattle.replay_form.specs.FrameFields.{IsFrame, IsFrameGood, IsWholeFrame, frame_field}
 use Rattle.replay_form.specs.Record.{first_stamp}
 
 -- the stamp is one, not before the last, and the datagram has at most 65,535 bytes

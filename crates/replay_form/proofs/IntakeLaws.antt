@@ -5,7 +5,7 @@ use Rattle.std.proofs.lemmas.List.{length-drop}
 use Rattle.replay_form.specs.FrameFields.{Frame, IsFrameWrongAt}
 use Rattle.replay_form.specs.HeadFields.{IsHeadPart, IsHeadWrongAt}
 use Rattle.replay_form.specs.Head.{IsHead}
-use Rattle.replay_form.specs.Reading.{Reading, begun, held_frame, frames_after, StandsWith, StandsFor, IsStep, IsFailed, IsNewFault}
+use Rattle.replay_form.specs.Reading.{Reading, begun, whole_bytes, held_frame, frames_after, StandsWith, StandsFor, IsStep, IsFailed, IsNewFault}
 use Rattle.replay_form.specs.Reading.{IsFrameRead as IsReaderFrame}
 use Rattle.replay_form.specs.Record.{IsRecordWrongAt}
 use Rattle.replay_form.specs.Verdict.{HasNoFault}
@@ -14,7 +14,7 @@ use Rattle.replay_form.specs.declared.event.Event.TheVariants as events
 use Rattle.replay_form.specs.declared.event.RecordFault.{RecordFault}
 use Rattle.replay_form.specs.declared.record_head.RecordHead.{RecordHead}
 use Rattle.replay_form.proofs.RecordLaws.{cut-append, record_wrong-append}
-use Rattle.replay_form.proofs.ReadingLaws.{sound_stands, step_sound, not_both}
+use Rattle.replay_form.proofs.ReadingLaws.{sound_stands, step_sound, step_lies, kept_whole, not_both}
 use Rattle.replay_form.specs.Grammar.{HasWhole, IsStanding, IsWrong, IsLawful, AreReads}
 use Rattle.replay_form.specs.Grammar.{IsStep as IsIntakeStep}
 use Rattle.replay_form.specs.RecordGrammar.{record_grammar, record_reads}
@@ -26,10 +26,6 @@ known false head e = cc
 unknown : (started : Bool) (head : RecordHead) → started ≡ false → (if started then Some head else None) ≡ None
 unknown true head e = cc
 unknown false head e = refl
-
-whole_now : (whole : Bool) (frame : Frame) → whole ≡ true → (if whole then Some frame else None) ≡ Some frame
-whole_now true frame e = refl
-whole_now false frame e = cc
 
 has_so_far : (reading : Reading) (taken : List ℕ) (frames : List Frame) → reading.fault ≡ None → StandsFor reading taken frames
     → HasWhole record_grammar (record_reads reading).head frames taken
@@ -53,6 +49,7 @@ are_reads reading = record {
   sound = λ taken frames s. sound_so_far reading taken frames s.0 s.1;
   has = λ taken frames s. has_so_far reading taken frames s.0 s.1;
   within = omega arith;
+  one = λ taken frame other p q. p.1.0 ∙ sym q.1.0;
 }
 
 pub record_lawful : IsLawful record_grammar
@@ -70,16 +67,18 @@ none_whole reading first standing =
 
 -- a frame has more bytes than its datagram
 datagram_within : (old : Reading) (piece : List ℕ) (count : ℕ) (new : Reading) → IsReaderFrame old piece count new
-    → old.start + length (held_frame new).datagram < new.start
+    → old.start + length (held_frame new (take count piece)).datagram < new.start
 datagram_within old piece count new step =
-    let bytes = begun old ++ take count piece in
+    let front = take count piece in
+    let bytes = begun old ++ front in
     let start : new.start ≡ old.start + length bytes = ap (λ (r : Reading). r.start) step.after in
-    let held : length (drop 20 new.held) ≡ length (drop 20 bytes) = ap (λ (r : Reading). length (drop 20 r.held)) step.after in
+    let held : length (drop 20 (whole_bytes new.held front)) ≡ length (drop 20 bytes) =
+    ap (λ (r : Reading). length (drop 20 (whole_bytes r.held front))) step.after ∙ ap (λ bs. length (drop 20 bs)) (kept_whole (begun old) front) in
     omega (arith, start, held, length-drop 20 bytes, step.whole.all)
 
 pub intake_step : (old : Reading) (piece : List ℕ) (count : ℕ) (event : Event) (new : Reading) → IsStep old piece count event new
     → IsStanding (record_reads old)
-    → ((taken : List ℕ) (frames : List Frame) → StandsFor old taken frames → StandsFor new (taken ++ take count piece) (frames_after event frames new))
+    → ((taken : List ℕ) (frames : List Frame) → StandsFor old taken frames → StandsFor new (taken ++ take count piece) (frames_after event frames new (take count piece)))
     → IsIntakeStep record_grammar event piece count (record_reads old) (record_reads new)
 intake_step old piece count events.More new step standing stands = record {
   all = step.all;
@@ -106,8 +105,8 @@ intake_step old piece count events.Frame new step standing stands = record {
   says = old.head;
   later = known old.started old.head step.later;
   head = known new.started new.head (ap (λ (r : Reading). r.started) step.after ∙ step.later) ∙ ap (λ (r : Reading). Some r.head) step.after;
-  is = held_frame new;
-  frame = whole_now new.whole (held_frame new) (ap (λ (r : Reading). r.whole) step.after);
+  is = held_frame new (take count piece);
+  frame = (ap (λ (r : Reading). r.whole) step.after, (refl, step_lies old piece count events.Frame new step (ap (λ (r : Reading). r.whole) step.after)));
   whole = datagram_within old piece count new step;
   stands = λ taken frames s. (step_sound old piece count events.Frame new step, stands taken frames s.1);
 }

@@ -1,10 +1,14 @@
 -- A reader stands for all bytes that it was given, however they were cut.
-use Rattle.std.proofs.Common.{◌≡◌, ℕ, ◌+◌, ◌<◌, ◌≤◌, ◌⊎◌, inl, inr, Bool, true, false, List, [], ◌∷◌, ◌++◌, length, take, Option, Some, None, refl, sym, ap, ◌∙◌, subst, length-append, take_all, arith}
+use Rattle.std.proofs.Common.{◌≡◌, ℕ, ◌+◌, ◌<◌, ◌≤◌, ◌⊎◌, inl, inr, Bool, true, false, List, [], ◌∷◌, ◌++◌, length, take, drop, Option, Some, None, refl, sym, ap, ◌∙◌, subst, length-append, take_all, arith}
 use Rattle.replay_form.specs.HeadFields.{IsHeadWrongAt, IsHeadPart}
-use Rattle.replay_form.specs.FrameFields.{Frame, IsFrame, IsFramePart, IsFrameWrongAt, frame_in}
+use Rattle.replay_form.specs.FrameFields.{Frame, IsFrame, IsWholeFrame, IsFramePart, IsFrameWrongAt, frame_in}
 use Rattle.replay_form.specs.Record.{first_stamp, last_stamp, IsCut, IsRecordWrongAt, EndsInside}
 use Rattle.replay_form.proofs.RecordLaws.{cut-append, cut-frame, cut-head, nothing_open, record_wrong-append, last_stamp-snoc}
-use Rattle.replay_form.specs.Reading.{Reading, begun, IsBeginning, IsGoing, StandsWith, StandsFor, IsMore, IsHeadRead, IsFrameRead, IsStep, IsFailed, IsFresh, IsUnfinished, held_frame, frames_after}
+use Rattle.vrt_time.specs.Time.{TimeStamp, stamp_of}
+use Rattle.replay_form.specs.Numbers.{number_at}
+use Rattle.replay_form.specs.Taking.{IsFrameFound}
+use Rattle.replay_form.proofs.FrameLaws.{whole_framed}
+use Rattle.replay_form.specs.Reading.{Reading, begun, kept_of, whole_bytes, IsFrameIn, IsBeginning, IsGoing, StandsWith, StandsFor, IsMore, IsHeadRead, IsFrameRead, IsStep, IsFailed, IsFresh, IsUnfinished, held_frame, frames_after}
 use Rattle.replay_form.specs.declared.event.Event.{Event}
 use Rattle.replay_form.specs.declared.event.Event.TheVariants as events
 use Rattle.replay_form.specs.declared.event.RecordFault.{RecordFault}
@@ -71,13 +75,44 @@ head_stands old piece count new taken frames step stands =
     ] in
     subst (λ r. StandsFor r (taken ++ take count piece) frames) (sym step.after) (inr cases)
 
+-- what was held and what was taken are the frame
+pub kept_whole : (old taken : List ℕ) → whole_bytes (kept_of old taken) taken ≡ old ++ taken
+kept_whole [] taken = refl
+kept_whole (byte ∷ old) taken = refl
+
+-- the bytes of a frame that was found, and what the reader knows with it
+pub found_bytes : (last : TimeStamp) (old piece new : List ℕ) (count : ℕ) (bytes : List ℕ) → IsFrameFound last old piece new count
+    → bytes ≡ whole_bytes new (take count piece) → bytes ≡ old ++ take count piece
+found_bytes last old piece new count bytes found is = is ∙ ap (λ held. whole_bytes held (take count piece)) found.held ∙ kept_whole old (take count piece)
+
+pub frame_found : (old : Reading) (piece : List ℕ) (count : ℕ) (held bytes : List ℕ) (stamp : TimeStamp) → old.fault ≡ None → old.started ≡ true → old.whole ≡ false
+    → IsFrameFound old.last old.held piece held count → bytes ≡ old.held ++ take count piece → stamp ≡ stamp_of (number_at 0 4 bytes) (number_at 4 8 bytes)
+    → IsFrameRead old piece count (record old { last = stamp; start = old.start + length bytes; whole = true; held = held })
+frame_found old piece count held bytes stamp sound later idle found is stamped =
+    let front = take count piece in
+    let same : old.held ≡ begun old = rw idle refl in
+    let all : bytes ≡ begun old ++ front = is ∙ ap (λ b. b ++ front) same in
+    record {
+      sound = sound;
+      few = found.few;
+      later = later;
+      whole = subst (λ b. IsWholeFrame old.last (b ++ front)) same found.whole;
+      after = ap (λ (s : TimeStamp). record old { last = s; start = old.start + length bytes; whole = true; held = held }) (stamped ∙ ap (λ b. (frame_in b).stamp) all)
+          ∙ ap (λ b. record old { last = (frame_in (begun old ++ front)).stamp; start = old.start + length b; whole = true; held = held }) all
+          ∙ ap (λ h. record old { last = (frame_in (begun old ++ front)).stamp; start = old.start + length (begun old ++ front); whole = true; held = h })
+          (found.held ∙ ap (λ b. kept_of b front) same);
+    }
+
 -- a frame is whole
 frame_stands : (old : Reading) (piece : List ℕ) (count : ℕ) (new : Reading) (taken : List ℕ) (frames : List Frame) → IsFrameRead old piece count new → StandsFor old taken frames
-    → StandsFor new (taken ++ take count piece) (frames ++ held_frame new ∷ [])
+    → StandsFor new (taken ++ take count piece) (frames ++ held_frame new (take count piece) ∷ [])
 frame_stands old piece count new taken frames step stands =
     let bytes = begun old ++ take count piece in
     let frame = frame_in bytes in
-    let after : Reading = record old { last = frame.stamp; start = old.start + length bytes; whole = true; held = bytes } in
+    let kept = kept_of (begun old) (take count piece) in
+    let after : Reading = record old { last = frame.stamp; start = old.start + length bytes; whole = true; held = kept } in
+    let same : held_frame after (take count piece) ≡ frame =
+    ap (λ bs. record { stamp = frame.stamp; port = number_at 12 2 bs; datagram = drop 20 bs }) (kept_whole (begun old) (take count piece)) in
     let cases : IsGoing after (taken ++ take count piece) (frames ++ frame ∷ []) =
     elim (sound_stands old taken frames step.sound stands) [
       | inl b ↦ not_both old.started step.later b.started
@@ -92,15 +127,32 @@ frame_stands old piece count new taken frames step stands =
         start = omega (arith, g.start, length-append (begun old) (take count piece), length-append taken (take count piece));
       }
     ] in
-    subst (λ r. StandsFor r (taken ++ take count piece) (frames ++ held_frame r ∷ [])) (sym step.after)
-    (stands_sound after (taken ++ take count piece) (frames ++ frame ∷ []) step.sound (inr cases))
+    subst (λ r. StandsFor r (taken ++ take count piece) (frames ++ held_frame r (take count piece) ∷ [])) (sym step.after)
+    (subst (λ f. StandsFor after (taken ++ take count piece) (frames ++ f ∷ [])) (sym same)
+    (stands_sound after (taken ++ take count piece) (frames ++ frame ∷ []) step.sound (inr cases)))
 
 -- each call adds its bytes, and its frame
 pub step_stands : (old : Reading) (piece : List ℕ) (count : ℕ) (event : Event) (new : Reading) (taken : List ℕ) (frames : List Frame) → IsStep old piece count event new
-    → StandsFor old taken frames → StandsFor new (taken ++ take count piece) (frames_after event frames new)
+    → StandsFor old taken frames → StandsFor new (taken ++ take count piece) (frames_after event frames new (take count piece))
 step_stands old piece count events.More new taken frames step stands = more_stands old piece count new taken frames step stands
 step_stands old piece count events.Head new taken frames step stands = head_stands old piece count new taken frames step stands
 step_stands old piece count events.Frame new taken frames step stands = frame_stands old piece count new taken frames step stands
+
+-- where a frame is whole, it stands in the bytes taken, or in those held
+frame_lies : (old : Reading) (piece : List ℕ) (count : ℕ) (new : Reading) → IsFrameRead old piece count new → IsFrameIn new (take count piece)
+frame_lies old piece count new step =
+    let front = take count piece in
+    let bytes = begun old ++ front in
+    let stamp = (frame_in bytes).stamp in
+    subst (λ r. IsFrameIn r front) (sym step.after)
+    (subst (λ bs. IsFrame first_stamp (record { stamp = stamp; port = number_at 12 2 bs; datagram = drop 20 bs }) bs) (sym (kept_whole (begun old) front))
+    (whole_framed old.last bytes stamp step.whole refl))
+
+pub step_lies : (old : Reading) (piece : List ℕ) (count : ℕ) (event : Event) (new : Reading) → IsStep old piece count event new → new.whole ≡ true
+    → IsFrameIn new (take count piece)
+step_lies old piece count events.More new step whole = not_both new.whole whole (ap (λ (r : Reading). r.whole) step.after)
+step_lies old piece count events.Head new step whole = not_both new.whole whole (ap (λ (r : Reading). r.whole) step.after)
+step_lies old piece count events.Frame new step whole = frame_lies old piece count new step
 
 -- a fault is that of all bytes
 failed : (fault : Option RecordFault) (old : Reading) (piece : List ℕ) (offset : ℕ) (new : Reading) (taken : List ℕ) (frames : List Frame) → old.fault ≡ fault

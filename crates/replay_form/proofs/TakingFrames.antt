@@ -1,5 +1,5 @@
 -- How far a frame has come, by its bytes and by its fields.
-use Rattle.std.proofs.Common.{◌≡◌, ℕ, zero, suc, ◌+◌, ◌<◌, ◌≤◌, inl, inr, List, [], ◌∷◌, ◌++◌, length, take, drop, sym, ap, ◌∙◌, subst, below_more, append-nil, arith}
+use Rattle.std.proofs.Common.{◌≡◌, ℕ, zero, suc, ◌+◌, ◌<◌, ◌≤◌, inl, inr, List, ◌++◌, length, take, drop, sym, ap, ◌∙◌, subst, below_more, append-nil, arith}
 use Rattle.std.proofs.lemmas.Bool.{cases_order}
 use Rattle.std.proofs.lemmas.List.{length-drop, length-take-le, take-append-drop, take-take}
 use Rattle.vrt_time.specs.Time.{TimeStamp}
@@ -182,18 +182,3 @@ whole_told last bytes n few w =
       right = subst (λ xs. AreFrameRight last xs 5) (take-append-drop n bytes) (frame_right-append last (take n bytes) (drop n bytes) 5 (λ i h. w.right i (omega arith)));
       all = omega (arith, long, w.all, size);
     }
-
--- it is taken at once
-pub whole_at_once : (last : TimeStamp) (old piece new : List ℕ) (n size : ℕ) → length old ≡ 0 → new ≡ old ++ take n piece → n ≤ length piece
-    → (length new < size → n ≡ length piece) → (length old ≤ size → length new ≤ size) → size ≤ length piece → IsWholeFrame last (take size piece)
-    → IsFrameWhole last old piece new n
-whole_at_once last [] piece new n size none e few all within there whole =
-    let long : length new ≡ n = ap length e ∙ length-take-le n piece few in
-    let most = within (omega arith) in
-    let same : n ≡ size = elim (cases_order n size) [
-      | inl eq ↦ eq
-      | inr (inl less) ↦ absurd (let short = all (omega arith) in omega arith)
-      | inr (inr more) ↦ absurd (omega arith)
-    ] in
-    record { few = few; held = e; whole = subst (IsWholeFrame last) (ap (λ k. take k piece) (sym same) ∙ sym e) whole }
-whole_at_once last (x ∷ old) piece new n size none e few all within there whole = absurd (omega arith)

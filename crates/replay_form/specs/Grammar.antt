@@ -28,13 +28,13 @@ HasWhole grammar None frames bytes = (frames ≡ []) × grammar.none bytes
 HasWhole grammar (Some head) frames bytes = grammar.has head frames bytes
 
 -- What an intake knows: how many bytes it was given, how many of them stand in the header and the frames that are whole, what the
--- header says, once it is whole, and the frame that the last call made whole. It stands for bytes in which no field is wrong, and
--- for the frames that stand whole in them.
+-- header says, once it is whole, and, with the bytes that the last call took, which frame it made whole. It stands for bytes in which
+-- no field is wrong, and for the frames that stand whole in them.
 pub record Reads (H F : Type 0) : Type 1 where
   pub given : ℕ
   pub whole : ℕ
   pub head : Option H
-  pub frame : Option F
+  pub frame : List ℕ → F → Type 0
   pub stands : List ℕ → List F → Type 0
 
 -- no field is wrong in the bytes given
@@ -63,7 +63,7 @@ pub record IsFrameRead {H F : Type 0} (grammar : Grammar H F) (piece : List ℕ)
   pub later : old.head ≡ Some says
   pub head : new.head ≡ Some says
   pub is : F
-  pub frame : new.frame ≡ Some is
+  pub frame : new.frame (take count piece) is
   pub whole : old.whole + grammar.size is < new.whole
   pub stands : (taken : List ℕ) (frames : List F) → old.stands taken frames → new.stands (taken ++ take count piece) (frames ++ is ∷ [])
 
@@ -92,11 +92,13 @@ pub record IsFresh {H F : Type 0} (reads : Reads H F) : Type 0 where
 pub record IsLawful {H F : Type 0} (grammar : Grammar H F) : Type 0 where
   pub stays : (bytes more : List ℕ) (offset : ℕ) → grammar.wrong bytes offset → grammar.wrong (bytes ++ more) offset
 
--- no field is wrong so far, these frames stand whole, and no more bytes stand whole than were given
+-- no field is wrong so far, these frames stand whole, no more bytes stand whole than were given, and with the same bytes one frame
+-- was made whole
 pub record AreReads {H F : Type 0} (grammar : Grammar H F) (reads : Reads H F) : Type 0 where
   pub sound : (taken : List ℕ) (frames : List F) → reads.stands taken frames → grammar.sound taken
   pub has : (taken : List ℕ) (frames : List F) → reads.stands taken frames → HasWhole grammar reads.head frames taken
   pub within : reads.whole ≤ reads.given
+  pub one : (taken : List ℕ) (frame other : F) → reads.frame taken frame → reads.frame taken other → frame ≡ other
 
 -- ---- what bytes are of which the first ones alone are judged
 

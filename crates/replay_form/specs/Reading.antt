@@ -12,8 +12,9 @@ use Rattle.replay_form.specs.declared.event.Event.{Event}
 use Rattle.replay_form.specs.declared.event.Event.TheVariants as events
 use Rattle.replay_form.specs.declared.event.RecordFault.{RecordFault}
 
--- Whether the header has come, and what it says; the stamp of the last frame, and the offset behind it; the bytes held, which
--- are a whole frame or what has come of the next one; and the fault.
+-- Whether the header has come, and what it says; the stamp of the last frame, and the offset behind it; whether that frame was made
+-- whole by the last call; the bytes held, which are what has come of the header or of the next frame, or a whole frame that came in
+-- parts; and the fault.
 pub record Reading : Type 0 where
   pub started : Bool
   pub head : RecordHead
@@ -26,6 +27,28 @@ pub record Reading : Type 0 where
 -- what has come of the header, or of the next frame
 abbrev pub begun : Reading → List ℕ
 begun reading = if reading.whole then [] else reading.held
+
+-- What is held of a frame that these bytes make whole: none of one that they hold alone;
+abbrev pub kept_of : List ℕ → List ℕ → List ℕ
+kept_of [] taken = []
+kept_of (byte ∷ begun) taken = (byte ∷ begun) ++ taken
+
+-- and the bytes of that frame.
+abbrev pub whole_bytes : List ℕ → List ℕ → List ℕ
+whole_bytes [] taken = taken
+whole_bytes (byte ∷ held) taken = byte ∷ held
+
+-- the frame that is whole, by the bytes that the last call took
+abbrev pub held_frame : Reading → List ℕ → Frame
+held_frame reading taken = record {
+  stamp = reading.last;
+  port = number_at 12 2 (whole_bytes reading.held taken);
+  datagram = drop 20 (whole_bytes reading.held taken);
+}
+
+-- it stands in these bytes, or in those held
+abbrev pub IsFrameIn : Reading → List ℕ → Type 0
+IsFrameIn reading taken = IsFrame first_stamp (held_frame reading taken) (whole_bytes reading.held taken)
 
 -- all bytes that the reader was given so far, and these frames, are behind what it knows
 pub record IsBeginning (reading : Reading) (taken : List ℕ) (frames : List Frame) : Type 0 where
@@ -82,7 +105,7 @@ pub record IsFrameRead (old : Reading) (piece : List ℕ) (count : ℕ) (new : R
     last = (frame_in (begun old ++ take count piece)).stamp;
     start = old.start + length (begun old ++ take count piece);
     whole = true;
-    held = begun old ++ take count piece;
+    held = kept_of (begun old) (take count piece);
   }
 
 abbrev pub IsStep : Reading → List ℕ → ℕ → Event → Reading → Type 0
@@ -106,10 +129,6 @@ pub record KeepsHead (old new : Reading) : Type 0 where
   pub started : new.started ≡ old.started
   pub head : new.head ≡ old.head
 
--- the frame that is whole
-abbrev pub held_frame : Reading → Frame
-held_frame reading = record { stamp = reading.last; port = number_at 12 2 reading.held; datagram = drop 20 reading.held }
-
 -- what the reader keeps true, with the number of the header's fields that are judged, and the room for bytes and routes
 pub record Keeps (reading : Reading) (judged held_room routes_room : ℕ) (routes : List Route) : Type 0 where
   pub held_fit : 65555 ≤ held_room
@@ -119,8 +138,6 @@ pub record Keeps (reading : Reading) (judged held_room routes_room : ℕ) (route
   pub head_open : reading.fault ≡ None → reading.started ≡ false → IsHeadOpen reading.held judged
   pub frame_open : reading.fault ≡ None → reading.started ≡ true → IsFramePart reading.last (begun reading)
   pub spelled : reading.started ≡ true → IsSpelledHead reading.head
-  pub frame_there : reading.whole ≡ true → 20 ≤ length reading.held
-  pub framed : reading.whole ≡ true → IsFrame first_stamp (held_frame reading) reading.held
   pub idle : IsSome reading.fault → reading.whole ≡ false
   pub small : reading.fault ≡ None → reading.start + length (begun reading) < 2 ^ 63
 
@@ -134,8 +151,8 @@ pub record IsFinished (reading : Reading) : Type 0 where
   pub started : reading.started ≡ true
   pub nothing : begun reading ≡ []
 
--- the frames after a call
-abbrev pub frames_after : Event → List Frame → Reading → List Frame
-frames_after events.More frames new = frames
-frames_after events.Head frames new = frames
-frames_after events.Frame frames new = frames ++ held_frame new ∷ []
+-- the frames after a call that took these bytes
+abbrev pub frames_after : Event → List Frame → Reading → List ℕ → List Frame
+frames_after events.More frames new taken = frames
+frames_after events.Head frames new taken = frames
+frames_after events.Frame frames new taken = frames ++ held_frame new taken ∷ []

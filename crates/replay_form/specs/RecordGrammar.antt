@@ -1,8 +1,8 @@
 -- The record of received datagrams as what an intake reads.
-use Rattle.std.specs.Prelude.{◌≡◌, ◌+◌, length, Some, None, if◌then◌else◌}
+use Rattle.std.specs.Prelude.{◌≡◌, ◌+◌, length, true, Some, None, if◌then◌else◌}
 use Rattle.replay_form.specs.FrameFields.{Frame}
 use Rattle.replay_form.specs.Head.{IsHead}
-use Rattle.replay_form.specs.Reading.{Reading, StandsFor, begun, held_frame}
+use Rattle.replay_form.specs.Reading.{Reading, IsFrameIn, StandsFor, begun, held_frame}
 use Rattle.replay_form.specs.Record.{IsRecord, EndsInside}
 use Rattle.replay_form.specs.Standing.{HasNoHead, HasFrames}
 use Rattle.replay_form.specs.Verdict.{HasNoFault, HasFaultAt}
@@ -27,6 +27,6 @@ record_reads reading = record {
   given = reading.start + length (begun reading);
   whole = reading.start;
   head = if reading.started then Some reading.head else None;
-  frame = if reading.whole then Some (held_frame reading) else None;
+  frame = λ taken frame. (reading.whole ≡ true) × ((frame ≡ held_frame reading taken) × IsFrameIn reading taken);
   stands = λ taken frames. (reading.fault ≡ None) × StandsFor reading taken frames;
 }

@@ -3,6 +3,7 @@ use Rattle.std.specs.Prelude.{◌≡◌, ℕ, ◌<◌, ◌≤◌, List, ◌++◌
 use Rattle.vrt_time.specs.Time.{TimeStamp}
 use Rattle.replay_form.specs.HeadFields.{IsHeadOpen, IsJudged, IsWholeHead, field_count, head_size}
 use Rattle.replay_form.specs.FrameFields.{IsFramePart, IsWholeFrame, AreFrameRight, frame_size}
+use Rattle.replay_form.specs.Reading.{kept_of}
 use Rattle.replay_form.specs.declared.take.HeadTaken.{HeadTaken}
 use Rattle.replay_form.specs.declared.take.HeadTaken.TheVariants as heads
 use Rattle.replay_form.specs.declared.take.FrameTaken.{FrameTaken}
@@ -34,7 +35,7 @@ pub record IsFrameBegun (last : TimeStamp) (bytes : List ℕ) : Type 0 where
   pub within : length bytes ≤ frame_size bytes
   pub right : AreFrameRight last bytes 5
 
--- the same of a frame
+-- the same of a frame, whose bytes are moved behind those held
 pub record IsFramePartTaken (last : TimeStamp) (old piece new : List ℕ) : Type 0 where
   pub held : new ≡ old ++ piece
   pub goes_on : IsFramePart last new
@@ -44,9 +45,19 @@ pub record IsFrameWhole (last : TimeStamp) (old piece new : List ℕ) (count : �
   pub held : new ≡ old ++ take count piece
   pub whole : IsWholeFrame last new
 
+abbrev pub IsFrameMoved : TimeStamp → List ℕ → List ℕ → FrameTaken → List ℕ → Type 0
+IsFrameMoved last old piece frames.Part new = IsFramePartTaken last old piece new
+IsFrameMoved last old piece (frames.Whole count) new = IsFrameWhole last old piece new count
+
+-- the same, but that a frame that stands in the piece alone stays there
+pub record IsFrameFound (last : TimeStamp) (old piece new : List ℕ) (count : ℕ) : Type 0 where
+  pub few : count ≤ length piece
+  pub held : new ≡ kept_of old (take count piece)
+  pub whole : IsWholeFrame last (old ++ take count piece)
+
 abbrev pub IsFrameTaken : TimeStamp → List ℕ → List ℕ → FrameTaken → List ℕ → Type 0
 IsFrameTaken last old piece frames.Part new = IsFramePartTaken last old piece new
-IsFrameTaken last old piece (frames.Whole count) new = IsFrameWhole last old piece new count
+IsFrameTaken last old piece (frames.Whole count) new = IsFrameFound last old piece new count
 
 -- what was not whole before takes a byte to be whole
 abbrev pub TakesSome : HeadTaken → Type 0

@@ -3,7 +3,7 @@ ghost use Rattle.replay_form.specs.Head.{IsSpelledHead};
 ghost use Rattle.replay_form.specs.HeadValues.{AreHeadValues};
 ghost use Rattle.replay_form.specs.FrameFields.{Frame, IsFrame, IsWholeFrame};
 ghost use Rattle.replay_form.specs.Numbers.{number_at};
-ghost use Rattle.replay_form.specs.Reading.{StandsFor, IsFresh, IsStep, IsFailed, IsNewFault, IsFinished, IsUnfinished, KeepsHead, begun, frames_after, held_frame};
+ghost use Rattle.replay_form.specs.Reading.{StandsFor, IsFresh, IsStep, IsFailed, IsNewFault, IsFinished, IsUnfinished, IsFrameIn, KeepsHead, begun, frames_after, held_frame, whole_bytes};
 ghost use Rattle.replay_form.specs.Record.{IsRecord, IsRecordWrongAt, EndsInside, first_stamp};
 ghost use Rattle.vrt_time.specs.Time.{TimeStamp, stamp_of};
 
@@ -27,7 +27,7 @@ use vrt_words::NoMemory;
 const MOST_ROUTES: usize = 256;
 
 /// Reads a record in any pieces: its header, and then its frames one by one, each judged as soon as
-/// it is there. It takes all its memory at opening.
+/// it is there. It takes all its memory at opening, and copies no frame that stands whole in a piece.
 #[derive(Drop)]
 pub struct RecordReader {
     alloc: Global,
@@ -40,6 +40,7 @@ pub struct RecordReader {
     last: Stamp,
     start: u64,
     whole: bool,
+    // What has come of the header or of the next frame, or a whole frame that came in parts.
     held: Vec<u8>,
     fault: Option<RecordFault>,
 }
@@ -90,12 +91,15 @@ impl RecordReader {
 
         // Over all bytes that were ever given, however they were cut.
         ensures stands { IfOk result (λ step. (taken : List ℕ) (frames : List Frame) → StandsFor self.old taken frames
-            → StandsFor self.new (taken ++ take step.0 piece.now) (frames_after step.1 frames self.new)) }
+            → StandsFor self.new (taken ++ take step.0 piece.now) (frames_after step.1 frames self.new (take step.0 piece.now))) }
         ensures fails { OnErr result ((taken : List ℕ) (frames : List Frame) → StandsFor self.old taken frames
             → StandsFor self.new (taken ++ piece.now) frames) }
 
         ensures few { IfOk result (λ step. step.0 ≤ length piece.now) }
         ensures progress { IfOk result (λ step. 0 < length piece.now → 0 < step.0) }
+
+        // The frame that is whole can be told with the bytes taken.
+        ensures lies { IfOk result (λ step. self.new.whole ≡ true → IsFrameIn self.new (take step.0 piece.now)) }
 
         // The same, by what the reader knows.
         ensures step { IfOk result (λ step. IsStep self.old piece.now step.0 step.1 self.new) }
@@ -116,25 +120,32 @@ impl RecordReader {
     }
 
     /// The frame that the last call of `feed` made whole, if it did: when the datagram came, on which
-    /// port, and its bytes.
-    pub fn frame(&self) -> Option<(Stamp, u16, &[u8])>
+    /// port, and its bytes. It is given the bytes that this call took, where the frame may stand.
+    pub fn frame<'a>(&'a self, taken: &'a [u8]) -> Option<(Stamp, u16, &'a [u8])>
+        requires { self.now.whole ≡ true → IsFrameIn self.now taken.now }
         ensures held { MatchOption result (self.now.whole ≡ false) (λ frame. (self.now.whole ≡ true)
-            × (held_frame self.now ≡ record { stamp = frame.0; port = frame.1; datagram = frame.2.now })) }
+            × (held_frame self.now taken.now ≡ record { stamp = frame.0; port = frame.1; datagram = frame.2.now })) }
         ensures most { IfSome result (λ frame. length frame.2.now ≤ 65535) }
     {
         if !self.whole {
             return None;
         }
-        Some((self.last, u16_at(&self.held, 12), &self.held[FRAME_HEAD..]))
+        let bytes = bytes_of_frame(&self.held, taken);
+        Some((self.last, u16_at(bytes, 12), &bytes[FRAME_HEAD..]))
     }
 
     /// The bytes of that frame, as they stand in the record.
-    pub fn frame_bytes(&self) -> Option<&[u8]>
+    pub fn frame_bytes<'a>(&'a self, taken: &'a [u8]) -> Option<&'a [u8]>
+        requires { self.now.whole ≡ true → IsFrameIn self.now taken.now }
         ensures frame { MatchOption result (self.now.whole ≡ false) (λ bytes. (self.now.whole ≡ true)
-            × IsFrame first_stamp (held_frame self.now) bytes.now) }
+            × IsFrame first_stamp (held_frame self.now taken.now) bytes.now) }
         ensures most { IfSome result (λ bytes. length bytes.now ≤ 65555) }
     {
-        if self.whole { Some(&self.held) } else { None }
+        if self.whole {
+            Some(bytes_of_frame(&self.held, taken))
+        } else {
+            None
+        }
     }
 
     /// Whether the bytes given are a record.
@@ -249,8 +260,11 @@ impl RecordReader {
         match take_frame(&mut self.held, self.last, piece) {
             Ok(FrameTaken::Part) => Ok((piece.len(), Event::More)),
             Ok(FrameTaken::Whole(count)) => {
-                self.last = stamp_in(self.last, &self.held);
-                self.start += self.held.len() as u64;
+                let frame = bytes_of_frame(&self.held, &piece[..count]);
+                let last = stamp_in(self.last, frame);
+                let size = frame.len() as u64;
+                self.last = last;
+                self.start += size;
                 self.whole = true;
                 Ok((count, Event::Frame))
             }
@@ -263,6 +277,14 @@ impl RecordReader {
             }
         }
     }
+}
+
+// The bytes of a whole frame: those held, or those taken last where none are.
+#[inline]
+fn bytes_of_frame<'a>(held: &'a [u8], taken: &'a [u8]) -> &'a [u8]
+    ensures { result.now ≡ whole_bytes held.now taken.now }
+{
+    if held.is_empty() { taken } else { held }
 }
 
 // The stamp of a whole frame.

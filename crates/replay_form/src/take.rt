@@ -1,6 +1,6 @@
 ghost use Rattle.std.specs.Prelude.{◌≡◌, ◌+◌, ◌*◌, ◌<◌, ◌≤◌, ◌^◌, ◌++◌, true, false, length, take, drop, vec_len, vec_capacity, IfOk, IfErr};
 ghost use Rattle.replay_form.specs.HeadFields.{IsHeadOpen, IsWholeHead, IsHeadWrongAt, head_size};
-ghost use Rattle.replay_form.specs.Taking.{IsHeadTaken, IsHeadBegun, TakesSome, IsFrameTaken, IsFrameBegun, FrameTakesSome};
+ghost use Rattle.replay_form.specs.Taking.{IsHeadTaken, IsHeadBegun, TakesSome, IsFrameTaken, IsFrameMoved, IsFrameBegun, FrameTakesSome};
 ghost use Rattle.replay_form.specs.FrameFields.{IsFramePart, IsWholeFrame, IsFrameWrongAt};
 
 use crate::frame_field::{FRAME_HEAD, judge_frame, size_of_frame, whole_frame};
@@ -100,8 +100,9 @@ fn take_routes(held: &mut Vec<u8>, judged: usize, piece: &[u8]) -> Result<HeadTa
     }
 }
 
-/// Takes bytes of the piece until a frame is whole, and judges each field as soon as it is there.
-/// `Err` has the offset of the first field that is wrong, in the frame.
+/// Takes bytes of the piece until a frame is whole, and judges each field as soon as it is there. A
+/// frame that stands in the piece alone stays there. `Err` has the offset of the first field that is
+/// wrong, in the frame.
 #[inline]
 pub(crate) fn take_frame(held: &mut Vec<u8>, last: Stamp, piece: &[u8]) -> Result<FrameTaken, usize>
     requires begun { IsFramePart last held.old.items }
@@ -111,20 +112,21 @@ pub(crate) fn take_frame(held: &mut Vec<u8>, last: Stamp, piece: &[u8]) -> Resul
     ensures wrong { IfErr result (λ offset. IsFrameWrongAt last (held.old.items ++ piece.now) offset) }
     ensures capacity { vec_capacity held.old ≤ vec_capacity held.new }
 {
-    if held.as_slice().is_empty()
-        && let Some(size) = whole_frame(last, piece)
-    {
-        return Ok(FrameTaken::Whole(take_up_to(held, piece, size)));
+    if !held.as_slice().is_empty() {
+        return take_in_parts(held, last, piece);
     }
-    take_in_parts(held, last, piece)
+    match whole_frame(last, piece) {
+        Some(size) => Ok(FrameTaken::Whole(size)),
+        None => take_in_parts(held, last, piece),
+    }
 }
 
-// The same where the frame is not whole in the piece alone, or wrong.
+// The same where the frame doesn't stand in the piece alone, or is wrong.
 #[inline(never)]
 fn take_in_parts(held: &mut Vec<u8>, last: Stamp, piece: &[u8]) -> Result<FrameTaken, usize>
     requires begun { IsFramePart last held.old.items }
     requires room { 65555 ≤ vec_capacity held.old }
-    ensures taken { IfOk result (λ taken. IsFrameTaken last held.old.items piece.now taken held.new.items) }
+    ensures taken { IfOk result (λ taken. IsFrameMoved last held.old.items piece.now taken held.new.items) }
     ensures progress { IfOk result FrameTakesSome }
     ensures wrong { IfErr result (λ offset. IsFrameWrongAt last (held.old.items ++ piece.now) offset) }
     ensures capacity { vec_capacity held.old ≤ vec_capacity held.new }
@@ -146,7 +148,7 @@ fn take_in_parts(held: &mut Vec<u8>, last: Stamp, piece: &[u8]) -> Result<FrameT
 fn take_datagram(held: &mut Vec<u8>, last: Stamp, piece: &[u8]) -> FrameTaken
     requires begun { IsFrameBegun last held.old.items }
     requires room { 65555 ≤ vec_capacity held.old }
-    ensures taken { IsFrameTaken last held.old.items piece.now result held.new.items }
+    ensures taken { IsFrameMoved last held.old.items piece.now result held.new.items }
     ensures capacity { vec_capacity held.old ≤ vec_capacity held.new }
 {
     let size = size_of_frame(held);

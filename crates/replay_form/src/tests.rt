@@ -1,5 +1,6 @@
-ghost use Rattle.std.specs.Prelude.{◌≤◌, ◌<◌, ◌^◌, length};
+ghost use Rattle.std.specs.Prelude.{◌≡◌, ◌≤◌, ◌<◌, ◌^◌, length, true};
 ghost use Rattle.replay_form.specs.HeadValues.{AreHeadValues};
+ghost use Rattle.replay_form.specs.Reading.{IsFrameIn};
 
 use super::*;
 use std::alloc::Global;
@@ -30,19 +31,43 @@ fn second_form() -> [u8; 348] {
 }
 
 // The port and the length of the frame that is whole, if one is, as a sum.
-fn frame_sum(reader: &RecordReader) -> u64 {
-    match reader.frame() {
+fn frame_sum(reader: &RecordReader, taken: &[u8]) -> u64
+    requires { reader.now.whole ≡ true → IsFrameIn reader.now taken.now }
+{
+    match reader.frame(taken) {
         Some((_, port, datagram)) => u64::from(port) + datagram.len() as u64,
         None => 0,
     }
 }
 
+// Puts the bytes of that frame behind those of the frames before.
+fn put_frame(reader: &RecordReader, taken: &[u8], frames: &mut Vec<u8>) -> Result<(), NoMemory>
+    requires { reader.now.whole ≡ true → IsFrameIn reader.now taken.now }
+{
+    match reader.frame_bytes(taken) {
+        Some(bytes) => frames.extend_from_slice(bytes).map_err(|_| NoMemory),
+        None => Ok(()),
+    }
+}
+
+// Where the piece ends that begins here: the first one has another size.
+fn end_of(at: usize, first: usize, piece: usize) -> usize
+    requires here { at < 2 ^ 32 }
+    requires some { 1 ≤ piece }
+    requires few { piece < 2 ^ 32 }
+    ensures { at < result }
+{
+    if at < first { first } else { at + piece }
+}
+
 // The sum of the ports and the lengths of all frames, and the verdict, where the bytes come in pieces
-// of this size.
-fn verdict(
+// of this size, behind a first one. The bytes of the frames are put behind one another.
+fn verdict_behind(
     alloc: Global,
     bytes: &[u8],
+    first: usize,
     piece: usize,
+    frames: &mut Vec<u8>,
 ) -> Result<(u64, Result<(), RecordFault>), NoMemory>
     requires some { 1 ≤ piece }
     requires few { piece < 2 ^ 32 }
@@ -52,15 +77,30 @@ fn verdict(
     let mut told: u64 = 0;
     let mut at = 0;
     while at < bytes.len() {
-        let end = bytes.len().min(at + piece);
-        let (count, _) = match reader.feed(&bytes[at..end]) {
+        let end = bytes.len().min(end_of(at, first, piece));
+        let part = &bytes[at..end];
+        let (count, _) = match reader.feed(part) {
             Ok(step) => step,
             Err(fault) => return Ok((told, Err(fault))),
         };
-        told = told.wrapping_add(frame_sum(&reader));
+        told = told.wrapping_add(frame_sum(&reader, &part[..count]));
+        put_frame(&reader, &part[..count], frames)?;
         at += count;
     }
     Ok((told, reader.finish()))
+}
+
+// The same in pieces of this size alone.
+fn verdict(
+    alloc: Global,
+    bytes: &[u8],
+    piece: usize,
+) -> Result<(u64, Result<(), RecordFault>), NoMemory>
+    requires some { 1 ≤ piece }
+    requires few { piece < 2 ^ 32 }
+    requires small { length bytes.now < 2 ^ 32 }
+{
+    verdict_behind(alloc, bytes, 0, piece, &mut Vec::new(alloc))
 }
 
 // The verdict in one piece.
@@ -116,6 +156,20 @@ fn a_record_is_read_in_any_pieces(rt: HostRuntime) -> Result<(), Fail> {
     assert!(rt; verdict(alloc, &bytes, 7).ok() == Some((118, Ok(()))));
     assert!(rt; verdict(alloc, &bytes, 4_096).ok() == Some((118, Ok(()))));
     assert!(rt; whole_verdict(alloc, &header()).ok() == Some((0, Ok(()))));
+    Ok(())
+}
+
+#[test]
+fn a_frame_is_lent_as_it_stands_wherever_it_is_cut(rt: HostRuntime) -> Result<(), Fail> {
+    let alloc = rt.alloc();
+    let bytes = framed(0x6553_F10A);
+    // The first frame ends at 468 bytes: up to there it is cut, and the second one stands whole.
+    for cut in 0..=bytes.len() {
+        let mut frames = Vec::new(alloc);
+        let told = verdict_behind(alloc, &bytes, cut, 4_096, &mut frames);
+        assert!(rt; told.ok() == Some((118, Ok(()))));
+        assert!(rt; frames.as_slice() == &bytes[340..]);
+    }
     Ok(())
 }
 
@@ -322,6 +376,6 @@ fn a_fault_stays(rt: HostRuntime) -> Result<(), Fail> {
     assert!(rt; reader.feed(b"DIFIREC3") == Err(RecordFault { offset: 0 }));
     assert!(rt; reader.feed(b"more") == Err(RecordFault { offset: 0 }));
     assert!(rt; reader.finish() == Err(RecordFault { offset: 0 }));
-    assert!(rt; reader.frame().is_none());
+    assert!(rt; reader.frame(&[]).is_none());
     Ok(())
 }

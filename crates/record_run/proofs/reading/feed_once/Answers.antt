@@ -1,7 +1,7 @@
 use Rattle.std.proofs.Common.{refl, subst, arith}
 use Rattle.replay_form.specs.declared.event.Event.{Event}
 use Rattle.replay_form.specs.Grammar.{IsStep}
-use Rattle.record_run.proofs.Feeding.{more_fed, head_fed, frame_fed, wrong_fed}
+use Rattle.record_run.proofs.Feeding.{more_fed, head_fed, frame_fed, wrong_fed, counts_within}
 use Rattle.record_run.proofs.reading.feed_once.Goals as goal
 
 pub returns-in-Ok-default-More-clause-fed : goal.returns-in-Ok-default-More-clause-fed
@@ -40,3 +40,10 @@ returns-in-Err-clause-fed g c = λ taken frames stands. record {
   few = omega (arith, c.requires.some);
   fed = wrong_fed g.I.Intake.grammar c.args.bytes.now c.in-Err.fault.offset _ _ _ taken frames c.in-Err.ensures.wrong c.requires.ready stands;
 }
+
+-- the frame that is whole is the one that was read
+pub tell_frame-requires-clause-count : goal.tell_frame-requires-clause-count
+tell_frame-requires-clause-count g c = λ frame whole.
+    let read = subst (λ (e : Event). IsStep g.I.Intake.grammar e c.args.bytes.now c.in-Ok-default-Frame.count (g.I.Intake.reads c.args.intake.now) (g.I.Intake.reads c.feed.new.self)) c.in-Ok-default-Frame.field-0-1-is c.in-Ok-default-Frame.ensures.step in
+    counts_within g.I.Intake.grammar c.args.bytes.now c.in-Ok-default-Frame.count _ _ _ frame read whole (g.met.I.Intake.so_far c.feed.new.self) c.requires.ready
+    c.in-Ok-default-Frame.ensures.front c.requires.small

@@ -9,5 +9,5 @@ put-requires-clause-fits c =
 
 pub returns-clause-told : goal.returns-clause-told
 returns-clause-told c = λ head frame known whole.
-    frame_on c.args.intake.now head frame c.in-Some.bytes.now _ _ c.args.self.now c.put.new.self c.put.ensures.frames c.requires.settled.started c.requires.settled.owed c.in-Some.ensures.frame whole
+    frame_on c.args.intake.now c.args.bytes.now head frame c.in-Some.frame.now _ _ c.args.self.now c.put.new.self c.put.ensures.frames c.requires.settled.started c.requires.settled.owed c.in-Some.ensures.frame whole
     c.put.ensures.bytes c.put.ensures.text

@@ -2,7 +2,7 @@ use Rattle.difi_gateway.proofs.OpeningLemmas.{opened_ready, opened_rests, opened
 use Rattle.difi_gateway.proofs.gateway.Gateway.open.Goals as goal
 
 pub invariant_of-result : goal.invariant_of-result
-invariant_of-result c = opened_ready c.args.head.now _ _ c.requires c.in_ok-parts.ensures c.in_ok-room.ensures
+invariant_of-result c = opened_ready c.args.head.now _ c.requires c.in_ok-parts.ensures
 
 pub returns-clause-stands : goal.returns-clause-stands
 returns-clause-stands c = opened_stands c.args.head.now _ c.requires c.in_ok-parts.ensures

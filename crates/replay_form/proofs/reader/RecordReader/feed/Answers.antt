@@ -2,7 +2,7 @@
 use Rattle.std.proofs.Common.{Result, Ok, Err, IfErr, OnErr}
 use Rattle.std.proofs.lemmas.Result.{IfOk-weaker}
 use Rattle.replay_form.specs.Reading.{IsStep, IsFailed}
-use Rattle.replay_form.proofs.ReadingLaws.{step_stands, step_few, failed_stands}
+use Rattle.replay_form.proofs.ReadingLaws.{step_stands, step_few, step_lies, failed_stands}
 use Rattle.replay_form.proofs.reader.RecordReader.feed.Goals as goal
 
 on_err : {A B : Type 0} (P : Type 0) (Q : B → Type 0) (r : Result A B) → ((e : B) → Q e → P) → IfErr r Q → OnErr r P
@@ -23,3 +23,8 @@ pub returns-clause-few : goal.returns-clause-few
 returns-clause-few c =
     IfOk-weaker c.advance.result (λ step. IsStep c.args.self.now c.args.piece.now step.0 step.1 c.advance.new.self) _
     (λ step is. step_few c.args.self.now c.args.piece.now step.0 step.1 c.advance.new.self is) c.advance.ensures.step
+
+pub returns-clause-lies : goal.returns-clause-lies
+returns-clause-lies c =
+    IfOk-weaker c.advance.result (λ step. IsStep c.args.self.now c.args.piece.now step.0 step.1 c.advance.new.self) _
+    (λ step is. step_lies c.args.self.now c.args.piece.now step.0 step.1 c.advance.new.self is) c.advance.ensures.step

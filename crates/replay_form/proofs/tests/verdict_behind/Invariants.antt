@@ -1,7 +1,7 @@
 use Rattle.std.proofs.Common.{◌≡◌, ◌≤◌, ◌-◌, List, length, take, None}
 use Rattle.replay_form.specs.FrameFields.{Frame}
 use Rattle.replay_form.specs.Reading.{StandsFor}
-use Rattle.replay_form.proofs.tests.verdict.Given as goal
+use Rattle.replay_form.proofs.tests.verdict_behind.Given as goal
 
 -- the reader stands for the bytes so far
 abbrev pub invariant-loop-at : goal.invariant-loop-at

@@ -3,7 +3,7 @@ use Rattle.std.proofs.Common.{◌≡◌, ◌≤◌, ◌+◌, ◌-◌, ◌++◌, 
 use Rattle.std.proofs.lemmas.List.{length-drop, length-take-le}
 use Rattle.replay_form.specs.Reading.{StandsFor, frames_after}
 use Rattle.replay_form.proofs.ReadingLaws.{step_sound, stands_size}
-use Rattle.replay_form.proofs.tests.verdict.Goals as goal
+use Rattle.replay_form.proofs.tests.verdict_behind.Goals as goal
 
 -- a piece of the bytes, from one place to another
 piece_size : (at end : ℕ) (bytes : List ℕ) → end ≤ length bytes → length (take (end - at) (drop at bytes)) ≡ end - at
@@ -32,12 +32,13 @@ loop-at-preserved c =
     let frames = c.loop-at.invariant.stands.0 in
     let most : c.min-end.result ≤ length bytes = omega arith in
     let size = piece_size at c.min-end.result bytes most in
+    let front = take c.in-Ok.step.0 (take (c.min-end.result - at) (drop at bytes)) in
     let few = c.in-Ok.ensures.few in record {
       within = omega arith;
       sound = step_sound c.loop-at.reader _ c.in-Ok.step.0 c.in-Ok.step.1 c.feed.new.self c.in-Ok.ensures.step;
       stands = (
-        frames_after c.in-Ok.step.1 frames c.feed.new.self,
-        subst (λ xs. StandsFor c.feed.new.self xs (frames_after c.in-Ok.step.1 frames c.feed.new.self)) (next_bytes at c.min-end.result c.in-Ok.step.0 bytes most few)
+        frames_after c.in-Ok.step.1 frames c.feed.new.self front,
+        subst (λ xs. StandsFor c.feed.new.self xs (frames_after c.in-Ok.step.1 frames c.feed.new.self front)) (next_bytes at c.min-end.result c.in-Ok.step.0 bytes most few)
             (c.in-Ok.ensures.stands (take at bytes) frames c.loop-at.invariant.stands.1),
       );
     }
