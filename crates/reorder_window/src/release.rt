@@ -39,6 +39,24 @@ pub(crate) fn take_least<T>(
     Some((least.stamp, lost, least.item))
 }
 
+// Puts a packet at its place among the held: the latest of all, as packets in order are, in front.
+fn put_at<T>(held: &mut VecDeque<Entry<T>>, place: usize, packet: Entry<T>)
+    requires room { deque_len held.old < deque_capacity held.old }
+    requires counted { deque_len held.old ≡ length held.old.items }
+    requires among { place ≤ deque_len held.old }
+    ensures items { held.new.items ≡ insert held.old.items place packet }
+    ensures longer { deque_len held.new ≡ deque_len held.old + 1 }
+    ensures capacity { deque_capacity held.old ≤ deque_capacity held.new }
+{
+    if place == 0 {
+        return held.push_front_reserved(packet);
+    }
+    match held.insert(place, packet) {
+        Ok(()) => (),
+        Err(_) => unreachable!(),
+    }
+}
+
 // Puts an accepted packet at its place among the held, and releases the least where they are more
 // than the size.
 pub(crate) fn accept<T>(
@@ -56,10 +74,7 @@ pub(crate) fn accept<T>(
         → IsReleased (insert held.old.items place packet) last.old held.new.items last.new result }
     ensures room { HoldingFits (length held.new.items) (deque_len held.new) size (deque_capacity held.new) }
 {
-    match held.insert(place, packet) {
-        Ok(()) => (),
-        Err(_) => unreachable!(),
-    }
+    put_at(held, place, packet);
     if held.len() <= size as usize {
         return Arrival::Kept;
     }

@@ -4,6 +4,6 @@ use Rattle.reorder_window.proofs.release.accept.Goals as goal
 pub returns-clause-released : goal.returns-clause-released
 returns-clause-released g c = λ _. record {
   given = _;
-  is_given = rw c.in-Ok.ensures.items at c.in-Some.ensures.least;
+  is_given = rw c.put_at.ensures.items at c.in-Some.ensures.least;
   released = refl;
 }
