@@ -15,7 +15,7 @@ use crate::telling::Telling;
 use difi_context::ContextRec;
 use difi_packet::Packet;
 use release_form::Refusal;
-use sample_binder::{Binder, Run, Turned};
+use sample_binder::{Binder, Run, Turned, front_of};
 use stream_routes::Routes;
 use vrt_header::Profile;
 use vrt_time::Stamp;
@@ -121,8 +121,10 @@ impl Parts {
         let Some(index) = self.routes.find(stream) else {
             return self.refuse(port, bytes.len(), Refusal::NoRoute, stream, None);
         };
+        // Read where the packet was received: its buffer, which may lie far away, is only written.
+        let front = front_of(bytes);
         let buf = filled(&mut self.empty, bytes);
-        match call_data(&mut self.binders[index], buf) {
+        match call_data(&mut self.binders[index], front, buf) {
             Ok(()) => self.draw(bytes.len(), index),
             Err((turned, buf)) => {
                 self.empty.push_reserved(buf);

@@ -22,7 +22,7 @@ use Rattle.reorder_window.specs.State.{Holding, IsUndrained}
 use Rattle.reorder_window.specs.Window.{AreFalling, AreBelow, accepted, number_held, release, in_order, releases, answer}
 use Rattle.reorder_window.proofs.WindowLaws.{every-accepted, every-release}
 use Rattle.vrt_fields.specs.declared.limits.Limits.{Limits}
-use Rattle.sample_binder.specs.declared.pending.Pending.{Pending}
+use Rattle.sample_binder.specs.Pending.{Pending}
 use Rattle.sample_binder.specs.declared.turned.Turned.{Turned}
 use Rattle.sample_binder.specs.Arrivals.{released_list, releases_by, Takes}
 use Rattle.sample_binder.specs.Binder.{Bound, IsBound, Follows, AreContextsSeen, ArePacketsSeen, left_events, end_events}

@@ -12,7 +12,7 @@ use Rattle.reorder_window.specs.declared.entry.Entry.{Entry}
 use Rattle.reorder_window.specs.Window.{accepted, released, lost_before, release, in_order, releases}
 use Rattle.reorder_window.proofs.WindowLaws.{every-release}
 use Rattle.vrt_fields.specs.declared.limits.Limits.{Limits}
-use Rattle.sample_binder.specs.declared.pending.Pending.{Pending}
+use Rattle.sample_binder.specs.Pending.{Pending}
 use Rattle.sample_binder.specs.Calls.{Call, ContextCall, DataCall, EndCall, context_entry, data_entry, context_arrivals, data_arrivals, shape_in, context_event, data_event, behind, all_releases, events_by, events_from, events_of}
 use Rattle.sample_binder.specs.Events.{Event, ContextEvent, DataEvent, EndEvent, contexts_of, packets_of}
 use Rattle.sample_binder.specs.Given.{IsDataOf}

@@ -4,7 +4,7 @@ use Rattle.std.proofs.lemmas.Bool.Decides.{nat_tests}
 use Rattle.std.proofs.lemmas.List.{append-nil, take-append-le, take_all, length-drop}
 use Rattle.context_timeline.specs.Line.{Line}
 use Rattle.vrt_fields.specs.declared.limits.Limits.{Limits}
-use Rattle.sample_binder.specs.declared.pending.Pending.{Pending}
+use Rattle.sample_binder.specs.Pending.{Pending}
 use Rattle.sample_binder.proofs.Cases.{tested}
 use Rattle.sample_binder.specs.Due.{may_leave, has_case, has_case_after, is_known, due}
 use Rattle.sample_binder.proofs.DueLaws.{may_leave-below, may_leave-more, may_leave-none, may_leave-next, may_leave-same, may_leave-none_behind}

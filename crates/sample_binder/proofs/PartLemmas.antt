@@ -6,7 +6,7 @@ use Rattle.vrt_header.specs.Profile.{PacketProfile}
 use Rattle.context_timeline.specs.Line.{Line}
 use Rattle.vrt_fields.specs.declared.limits.Limits.{Limits}
 use Rattle.sample_binder.specs.declared.out.Out.{Out}
-use Rattle.sample_binder.specs.declared.pending.Pending.{Pending}
+use Rattle.sample_binder.specs.Pending.{Pending}
 use Rattle.sample_binder.specs.declared.reason.Reason.{Reason}
 use Rattle.sample_binder.specs.Calls.{Call, events_of, events_by, outputs_of, given_by, behind}
 use Rattle.sample_binder.specs.Events.{Event, contexts_of, packets_of, has_ended, line_after}

@@ -10,7 +10,7 @@ use Rattle.reorder_window.specs.declared.entry.Entry.{Entry}
 use Rattle.reorder_window.specs.Window.{is_accepted, in_place, with_arrival, accepted, number_held, release, in_order, releases}
 use Rattle.sample_binder.specs.declared.out.Out.{Out}
 use Rattle.sample_binder.specs.declared.out.Out.TheVariants as out
-use Rattle.sample_binder.specs.declared.pending.Pending.{Pending}
+use Rattle.sample_binder.specs.Pending.{Pending}
 use Rattle.sample_binder.specs.declared.run.Run.{Run}
 use Rattle.sample_binder.specs.Calls.{Call, ContextCall, DataCall, EndCall, data_arrivals, is_told, all_releases, events_of, outputs_of}
 use Rattle.sample_binder.specs.Due.{due}

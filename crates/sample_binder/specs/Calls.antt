@@ -10,6 +10,7 @@ use Rattle.reorder_window.specs.declared.arrival.Arrival.{Arrival}
 use Rattle.reorder_window.specs.declared.arrival.Arrival.TheVariants as arrival
 use Rattle.reorder_window.specs.Window.{accepted, in_order, releases}
 use Rattle.vrt_fields.specs.declared.limits.Limits.{Limits}
+use Rattle.sample_binder.specs.declared.front.Front.{Front}
 use Rattle.sample_binder.specs.declared.out.Out.{Out}
 use Rattle.sample_binder.specs.declared.shape.Shape.{Shape}
 use Rattle.sample_binder.specs.declared.turned.Turned.{Turned}
@@ -30,6 +31,9 @@ data_stamp bytes =
 
 abbrev pub data_count : List ℕ → ℕ
 data_count bytes = bits (slice_index (words_of bytes) 0) 16 4
+
+abbrev pub front_in : List ℕ → Front
+front_in bytes = record { stamp = data_stamp bytes; count = data_count bytes }
 
 abbrev pub shape_in : TimeStamp → List ℕ → Shape
 shape_in stamp bytes =

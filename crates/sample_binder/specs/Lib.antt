@@ -1,5 +1,6 @@
 pub mod Reasons
 pub mod RunRules
+pub mod Pending
 pub mod Events
 pub mod Samples
 pub mod Due

@@ -3,7 +3,7 @@ use Rattle.std.specs.Prelude.{ℕ, suc, zero, Bool, true, false, List, [], ◌�
 use Rattle.vrt_fields.specs.declared.limits.Limits.{Limits}
 use Rattle.sample_binder.specs.declared.out.Out.{Out}
 use Rattle.sample_binder.specs.declared.out.Out.TheVariants as out
-use Rattle.sample_binder.specs.declared.pending.Pending.{Pending}
+use Rattle.sample_binder.specs.Pending.{Pending}
 use Rattle.sample_binder.specs.declared.reason.Reason.{Reason}
 use Rattle.sample_binder.specs.declared.reason.Reason.TheVariants as reason
 use Rattle.sample_binder.specs.Events.{Event, packets_of, has_ended, line_after}

@@ -8,7 +8,7 @@ use Rattle.sample_binder.specs.declared.leaving.Leaving.{Leaving}
 use Rattle.vrt_fields.specs.declared.limits.Limits.{Limits}
 use Rattle.sample_binder.specs.declared.out.Out.{Out}
 use Rattle.sample_binder.specs.declared.out.Out.TheVariants as out
-use Rattle.sample_binder.specs.declared.pending.Pending.{Pending}
+use Rattle.sample_binder.specs.Pending.{Pending}
 use Rattle.sample_binder.specs.declared.shape.Shape.{Shape}
 use Rattle.sample_binder.specs.Due.{is_known, has_case_after, may_leave}
 use Rattle.sample_binder.specs.Events.{Event, packets_of, has_ended, line_after}

@@ -4,7 +4,7 @@ use Rattle.context_timeline.specs.Line.{Line}
 use Rattle.sample_binder.specs.declared.leaving.Leaving.{Leaving}
 use Rattle.sample_binder.specs.declared.out.Out.{Out}
 use Rattle.sample_binder.specs.declared.out.Out.TheVariants as out
-use Rattle.sample_binder.specs.declared.pending.Pending.{Pending}
+use Rattle.sample_binder.specs.Pending.{Pending}
 use Rattle.sample_binder.specs.Queue.{first_decided}
 
 -- the first packet that waits need not wait, and leaves

@@ -4,11 +4,10 @@ ghost use Rattle.difi_context.specs.Context.{IsInGrammar};
 ghost use Rattle.reorder_window.specs.declared.entry.Entry.{Entry};
 ghost use Rattle.reorder_window.specs.State.{StandsFor, IsUndrained};
 ghost use Rattle.reorder_window.specs.Window.{AreFalling, accepted, answer, releases};
-ghost use Rattle.sample_binder.specs.Calls.{outcome, context_entry, data_entry};
+ghost use Rattle.sample_binder.specs.Calls.{outcome, context_entry, data_entry, front_in};
 ghost use Rattle.sample_binder.specs.Arrivals.{releases_by, Takes};
-ghost use Rattle.sample_binder.specs.Given.{IsDataBytes};
 
-use crate::front::{count_of, stamp_of};
+use crate::front::Front;
 use crate::turned::Turned;
 use difi_context::ContextRec;
 use reorder_window::{Arrival, HeldItem, Window, accepted_are_arrivals};
@@ -62,18 +61,17 @@ pub(crate) fn arrive_context(
     arrive(window, stamp, count, rec)
 }
 
-// A data packet arrives at its window.
+// A data packet with this front arrives at its window.
 pub(crate) fn arrive_data(
     window: &mut Window<PacketBuf>,
+    front: Front,
     buf: PacketBuf,
 ) -> Result<Option<(Stamp, u8, PacketBuf)>, (Turned, PacketBuf)>
-    requires front { IsDataBytes buf.bytes }
+    requires front { front ≡ front_in buf.bytes }
     requires undrained { IsUndrained window.old }
     ensures takes { (arrivals : List (Entry Buffer)) → StandsFor window.old arrivals 0
         → Takes ⟦<PacketBuf as HeldItem>⟧.is_same window.old window.new arrivals (data_entry buf) result }
     ensures size { window.new.size ≡ window.old.size }
 {
-    let stamp = stamp_of(buf.bytes());
-    let count = count_of(buf.bytes());
-    arrive(window, stamp, count, buf)
+    arrive(window, front.stamp, front.count, buf)
 }

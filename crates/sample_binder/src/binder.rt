@@ -1,7 +1,7 @@
 ghost use Rattle.std.specs.Prelude.{◌≡◌, ◌≢◌, ℕ, ◌+◌, ◌<◌, ◌≤◌, ◌^◌, ◌↔◌, true, false, List, [], ◌∷◌, ◌++◌, length, slice_get, bytes_eq, Some, Result, IsTrue, IfOk, IfErr, OnOk, OnErr, OnSome, IfSome, IfNone};
 ghost use Rattle.difi_context.specs.Context.{IsSpelled};
 ghost use Rattle.reorder_window.specs.Window.{answer};
-ghost use Rattle.sample_binder.specs.Calls.{Call, ContextCall, DataCall, EndCall, context_arrivals, data_arrivals, context_entry, data_entry, outputs_of, outcome};
+ghost use Rattle.sample_binder.specs.Calls.{Call, ContextCall, DataCall, EndCall, context_arrivals, data_arrivals, context_entry, data_entry, front_in, outputs_of, outcome};
 ghost use Rattle.sample_binder.specs.GivenOut.{out_with};
 ghost use Rattle.sample_binder.specs.Outputs.{packets_in};
 ghost use Rattle.sample_binder.specs.Queue.{owed};
@@ -12,6 +12,7 @@ ghost use Rattle.sample_binder.specs.Binder.{StandsFor, SameBinder, number_kept,
 use crate::arrive::{arrive_context, arrive_data};
 use crate::binding::Binding;
 use crate::drain::{advance, go_on};
+use crate::front::{Front, front_of};
 use crate::out::{Given, Out};
 use crate::release::{give_context, give_data};
 use crate::run::Run;
@@ -131,7 +132,37 @@ impl Binder {
         ensures buffer { IfErr result (λ turned. turned.1 ≡ buf) }
         ensures err { OnErr result (self.new ≡ self.old) }
     {
-        match arrive_data(&mut self.packets, buf) {
+        let front = front_of(buf.bytes());
+        self.data_with(front, buf)
+    }
+
+    /// The same as `data` for a packet whose front was read before, as from a piece in which it still
+    /// stands: its buffer, which may lie far away, is not looked at while the packet is held.
+    ///
+    /// `Err` exactly where the window for data packets turns it away: the buffer comes back, and
+    /// nothing has changed.
+    pub fn data_with(&mut self, front: Front, buf: PacketBuf) -> Result<(), (Turned, PacketBuf)>
+        requires grammar { IsDataOf self.old.profile buf.bytes }
+        requires front { front ≡ front_in buf.bytes }
+        requires nothing { owed self.old.state ≡ [] }
+        requires untold { self.old.told ≡ false }
+        requires few { self.old.given < 2 ^ 63 }
+        ensures answer { (calls : List Call) (taken : ℕ) → StandsFor self.old calls taken → result ≡ without_release (outcome
+            (answer ⟦<PacketBuf as HeldItem>⟧.is_same self.old.limits.data_window (data_arrivals calls) (data_entry buf))) }
+        ensures stands { (calls : List Call) (taken : ℕ) → StandsFor self.old calls taken
+            → StandsFor self.new (calls ++ DataCall buf ∷ []) taken }
+        ensures kept { SameBinder self.old self.new }
+
+        // One more is held or waits, and no more than that are held and wait.
+        ensures one_more { OnOk result (number_kept self.new ≡ number_kept self.old + 1) }
+        ensures few_kept { number_kept self.new
+            ≤ self.new.limits.data_window + 1 + self.new.limits.pending }
+        ensures few_wait { length self.new.state.queue ≤ self.new.limits.pending + 1 }
+        ensures given { OnOk result (self.new.given ≡ self.old.given + 1) }
+        ensures buffer { IfErr result (λ turned. turned.1 ≡ buf) }
+        ensures err { OnErr result (self.new ≡ self.old) }
+    {
+        match arrive_data(&mut self.packets, front, buf) {
             Ok(released) => {
                 give_data(&mut self.binding, released);
                 self.given += 1;

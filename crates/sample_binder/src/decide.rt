@@ -9,6 +9,7 @@ ghost use Rattle.sample_binder.specs.Samples.{rate_in, size_in, number_of};
 
 use crate::clock::is_captured_before;
 use crate::leaving::Leaving;
+use crate::pending::Pending;
 use crate::reason::Reason;
 use crate::sampled::Sampled;
 use crate::sampling::{rate_of, samples_of, size_of};
@@ -19,30 +20,30 @@ use vrt_time::Stamp;
 // Writes how a packet leaves, where nothing later can change what is known of it, or where it must: whether it leaves.
 pub(crate) fn decide(
     timeline: &Timeline,
-    shape: &Shape,
+    packet: &Pending,
     must: bool,
     why: Reason,
     leaving: &mut Option<Leaving>,
 ) -> bool
     requires sound { AreSound timeline.now.kept }
-    requires shape { IsShape shape.now }
-    ensures leaving { leaving.new ≡ decided timeline.now shape.now must why (mark_in timeline.now (moment_of shape.now.stamp)) }
+    requires shape { IsShape packet.now.shape }
+    ensures leaving { leaving.new ≡ decided timeline.now packet.now.shape must why (mark_in timeline.now (moment_of packet.now.shape.stamp)) }
     ensures leaves { result ≡ is_some leaving.new }
 {
-    let (look, until) = timeline.look_until(shape.stamp.moment());
+    let (look, until) = timeline.look_until(packet.stamp().moment());
     match look {
         Look::Open => {
             if must {
-                leave_whole(why, shape, leaving)
+                leave_whole(why, &packet.shape(), leaving)
             } else {
                 wait(leaving)
             }
         }
-        Look::BeforeFirst => leave_whole(Reason::BeforeFirst, shape, leaving),
-        Look::TimelineFull => leave_whole(Reason::TimelineFull, shape, leaving),
-        Look::Lost(lost) => leave_whole(Reason::ContextLost(lost), shape, leaving),
+        Look::BeforeFirst => leave_whole(Reason::BeforeFirst, &packet.shape(), leaving),
+        Look::TimelineFull => leave_whole(Reason::TimelineFull, &packet.shape(), leaving),
+        Look::Lost(lost) => leave_whole(Reason::ContextLost(lost), &packet.shape(), leaving),
         Look::Bound { place: _, fields } => {
-            decide_bound(timeline, shape, must, fields, until, leaving)
+            decide_bound(timeline, &packet.shape(), must, fields, until, leaving)
         }
     }
 }

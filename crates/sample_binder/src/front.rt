@@ -1,14 +1,34 @@
 ghost use Rattle.std.specs.Prelude.{◌≡◌, ◌<◌, ◌≤◌, length, slice_index};
 ghost use Rattle.vrt_words.specs.Words.{words_of};
-ghost use Rattle.sample_binder.specs.Calls.{data_stamp, data_count, shape_in};
+ghost use Rattle.sample_binder.specs.Calls.{data_stamp, data_count, front_in, shape_in};
 ghost use Rattle.sample_binder.specs.Given.{IsDataBytes};
 
 use crate::shape::Shape;
 use vrt_time::Stamp;
 use vrt_words::{bits_of, word_in};
 
+/// What a window reads of a data packet: when its first sample was captured, and its count.
+#[derive(Clone, Copy, Debug, PartialEq, Eq)]
+pub struct Front {
+    /// When the first sample was captured.
+    pub stamp: Stamp,
+    /// The packet count, modulo 16.
+    pub count: u8,
+}
+
+/// The front of a data packet, from its bytes: they need not be in its buffer yet.
+pub fn front_of(bytes: &[u8]) -> Front
+    requires { IsDataBytes bytes.now }
+    ensures { result ≡ front_in bytes.now }
+{
+    Front {
+        stamp: stamp_of(bytes),
+        count: count_of(bytes),
+    }
+}
+
 // The stamp of a data packet.
-pub(crate) fn stamp_of(bytes: &[u8]) -> Stamp
+fn stamp_of(bytes: &[u8]) -> Stamp
     requires { IsDataBytes bytes.now }
     ensures { result ≡ data_stamp bytes.now }
 {
@@ -19,10 +39,9 @@ pub(crate) fn stamp_of(bytes: &[u8]) -> Stamp
 }
 
 // The packet count, modulo 16.
-pub(crate) fn count_of(bytes: &[u8]) -> u8
+fn count_of(bytes: &[u8]) -> u8
     requires { IsDataBytes bytes.now }
-    ensures count { result ≡ data_count bytes.now }
-    ensures within { result ≤ 15 }
+    ensures { result ≡ data_count bytes.now }
 {
     bits_of(word(bytes, 0), 16, 4) as u8
 }

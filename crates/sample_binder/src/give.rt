@@ -112,8 +112,6 @@ pub(crate) fn give_packet(
 fn given_of(packet: Pending) -> Given
     ensures { result ≡ Given.Packet packet.buf packet.lost }
 {
-    Given::Packet {
-        buf: packet.buf,
-        lost: packet.lost,
-    }
+    let (buf, lost) = packet.into_parts();
+    Given::Packet { buf, lost }
 }

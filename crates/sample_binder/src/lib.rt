@@ -36,6 +36,7 @@ mod tests;
 mod turned;
 
 pub use crate::binder::Binder;
+pub use crate::front::{Front, front_of};
 pub use crate::label::Label;
 pub use crate::laws::{
     data_packets_are_read, due_events_are_the_first, events_are_all_releases, outputs_append,

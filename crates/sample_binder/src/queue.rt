@@ -39,5 +39,5 @@ pub(crate) fn decide_first(
         return false;
     };
     let must = queue.len() > pending as usize || ended;
-    decide(timeline, &first.shape, must, why_open(ended), leaving)
+    decide(timeline, first, must, why_open(ended), leaving)
 }

@@ -11,7 +11,6 @@ ghost use Rattle.sample_binder.specs.Given.{IsLater, IsDataBytes};
 ghost use Rattle.sample_binder.specs.Released.{with_released, queue_with};
 
 use crate::binding::Binding;
-use crate::front::shape_of;
 use crate::pending::Pending;
 use difi_context::ContextRec;
 use vrt_time::Stamp;
@@ -40,7 +39,6 @@ pub(crate) fn give_data(binding: &mut Binding, released: Option<(Stamp, u8, Pack
         → StandsFor binding.new limits (events ++ map data_event (released_list released)) taken }
 {
     if let Some((stamp, lost, buf)) = released {
-        let shape = shape_of(stamp, buf.bytes());
-        binding.data(Pending { buf, shape, lost });
+        binding.data(Pending::new(stamp, lost, buf));
     }
 }

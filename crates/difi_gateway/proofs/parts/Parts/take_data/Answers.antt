@@ -2,10 +2,18 @@ use Rattle.std.proofs.Common.{vec_capacity, refl, Some, None, sym, ap, subst, in
 use Rattle.std.proofs.lemmas.Option.{slice_get_read}
 use Rattle.vrt_words.specs.Buffer.{Buffer}
 use Rattle.vrt_header.specs.Profile.{PacketProfile}
+use Rattle.sample_binder.specs.Calls.{front_in}
 use Rattle.sample_binder.specs.Given.{IsDataOf}
+use Rattle.sample_binder.proofs.BinderLemmas.{data_bytes}
 use Rattle.difi_gateway.specs.Steps.{gated}
 use Rattle.difi_gateway.proofs.CallLemmas.{data_given}
 use Rattle.difi_gateway.proofs.parts.Parts.take_data.Goals as goal
+
+pub front_of-front-requires : goal.front_of-front-requires
+front_of-front-requires c = data_bytes c.args.self.now.profile c.args.bytes.now c.requires.grammar
+
+pub call_data-requires-clause-front : goal.call_data-requires-clause-front
+call_data-requires-clause-front c = c.front_of-front.ensures ∙ sym (ap (λ (b : Buffer). front_in b.bytes) c.filled-buf.ensures.filled.2)
 
 pub call_data-requires-clause-ready : goal.call_data-requires-clause-ready
 call_data-requires-clause-ready c = (c.requires.ready.each c.in-Some.index c.index_mut.result.now (slice_get_read _ _ c.in-Some.index c.index_mut.result.now (sym c.requires.ready.all) c.in-Some.ensures.within c.index_mut.ensures.value)).0

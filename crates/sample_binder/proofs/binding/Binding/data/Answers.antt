@@ -1,5 +1,5 @@
 use Rattle.std.proofs.Common.{◌++◌, ◌∷◌, [], List, sym, ap, ◌∙◌, subst, arith}
-use Rattle.sample_binder.specs.declared.pending.Pending.{Pending}
+use Rattle.sample_binder.specs.Pending.{Pending}
 use Rattle.sample_binder.specs.Events.{DataEvent}
 use Rattle.sample_binder.specs.Queue.{FirstWaits, State, owed, StandsFor, IsState}
 use Rattle.sample_binder.proofs.StateLemmas.{first_held, held_some, stands-data, IsState-data, idle}
