@@ -1,5 +1,5 @@
 -- A packet whose last sample was captured before the next context leaves in one run.
-use Rattle.std.proofs.Common.{◌≡◌, ℕ, ◌-◌, ◌<◌, ◌≤◌, ◌∷◌, nat_lt, Bool, true, false, cond, List, Option, Some, None, IfSome, refl, sym, ap, ◌∙◌, inl, arith}
+use Rattle.std.proofs.Common.{◌≡◌, ℕ, ◌-◌, ◌<◌, ◌≤◌, ◌∷◌, nat_lt, true, false, cond, List, Option, Some, None, IfSome, refl, sym, ap, ◌∙◌, inl, arith}
 use Rattle.std.proofs.lemmas.Grind.{common_steps}
 use Rattle.std.proofs.lemmas.Bool.Decides.{nat_tests}
 use Rattle.vrt_time.specs.Time.{TimeStamp, moment_of, capture_at}
@@ -11,7 +11,6 @@ use Rattle.context_timeline.specs.Marks.{mark_in, is_below, next_stamp}
 use Rattle.context_timeline.proofs.CutLaws.{cut_of, next_stamp_cut, mark_in_cut, mark_in_later}
 use Rattle.sample_binder.specs.declared.label.Label.{Label}
 use Rattle.sample_binder.specs.declared.label.Label.TheVariants as label
-use Rattle.sample_binder.specs.declared.leaving.Leaving.{Leaving}
 use Rattle.sample_binder.specs.declared.leaving.Leaving.TheVariants as leaving
 use Rattle.sample_binder.specs.declared.reason.Reason.{Reason}
 use Rattle.sample_binder.specs.declared.reason.Reason.TheVariants as reason
