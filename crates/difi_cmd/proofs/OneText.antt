@@ -1,11 +1,8 @@
 -- Bytes have one text for each listing.
 use Rattle.std.proofs.Common.{◌≡◌, ℕ, inl, inr, List, [], ◌++◌, sym, ap, ◌∙◌, subst}
 use Rattle.replay_form.specs.FrameFields.{Frame}
-use Rattle.replay_form.specs.Record.{first_stamp, last_stamp, IsRecord}
-use Rattle.replay_form.specs.Standing.{HasFrames}
 use Rattle.replay_form.specs.declared.record_head.RecordHead.{RecordHead}
-use Rattle.replay_form.proofs.RecordLaws.{nothing_open}
-use Rattle.replay_form.proofs.VerdictLaws.{one_standing, not_headless}
+use Rattle.replay_form.proofs.VerdictLaws.{one_standing, not_headless, record_stands}
 use Rattle.difi_texts.specs.declared.lines.Listing.{Listing}
 use Rattle.difi_texts.specs.Lines.{Account, entries, summary}
 use Rattle.difi_cmd.specs.Text.{AreAccounts, IsPart, IsOutput}
@@ -25,11 +22,8 @@ one_part listing bytes text other (inr p) (inr q) =
     let same = one_standing p.0 q.0 p.1.0 q.1.0 bytes p.1.1.0 q.1.1.0 in
     p.1.1.1.1.1 ∙ ap (entries 1) (one_told listing p.0 q.0 p.1.0 q.1.0 p.1.1.1.0 q.1.1.1.0 same p.1.1.1.1.0 q.1.1.1.1.0) ∙ sym q.1.1.1.1.1
 
-pub whole_frames : (head : RecordHead) (fs : List Frame) (bytes : List ℕ) → IsRecord head fs bytes → HasFrames head fs bytes
-whole_frames head fs bytes p = record { rest = []; cut = p; behind = inl (nothing_open (last_stamp first_stamp fs)) }
-
 -- a record has one text
 pub one_output : (listing : Listing) (bytes text other : List ℕ) → IsOutput listing bytes text → IsOutput listing bytes other → text ≡ other
 one_output listing bytes text other p q =
-    let same = one_standing p.0 q.0 p.1.0 q.1.0 bytes (whole_frames p.0 p.1.0 bytes p.1.1.0) (whole_frames q.0 q.1.0 bytes q.1.1.0) in
+    let same = one_standing p.0 q.0 p.1.0 q.1.0 bytes (record_stands p.0 p.1.0 bytes p.1.1.0) (record_stands q.0 q.1.0 bytes q.1.1.0) in
     p.1.1.1.1.1 ∙ ap (λ l. entries 1 l ++ summary l) (one_told listing p.0 q.0 p.1.0 q.1.0 p.1.1.1.0 q.1.1.1.0 same p.1.1.1.1.0 q.1.1.1.1.0) ∙ sym q.1.1.1.1.1

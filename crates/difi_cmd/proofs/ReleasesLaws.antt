@@ -7,20 +7,19 @@ use Rattle.replay_form.specs.Record.{IsRecord}
 use Rattle.replay_form.specs.Standing.{HasNoHead, HasFrames}
 use Rattle.replay_form.specs.SecondForm.{in_second_form}
 use Rattle.replay_form.specs.declared.record_head.RecordHead.{RecordHead}
-use Rattle.replay_form.proofs.VerdictLaws.{one_standing, not_headless}
+use Rattle.replay_form.proofs.VerdictLaws.{one_standing, not_headless, record_stands}
 use Rattle.difi_gateway.specs.Releases.{IsPartOf, IsOutOf}
 use Rattle.difi_gateway.proofs.OtherForm.{same_part_bytes, same_out_bytes}
 use Rattle.difi_cmd.specs.Migrated.{IsMigratedOf, IsMigratedSoFar}
 use Rattle.difi_cmd.specs.ReleasesOf.{AreReleasesOf, AreReleasesSoFar, HaveSameReleases, HasOnePortEach}
 use Rattle.difi_cmd.proofs.FormLaws.{same_header}
 use Rattle.difi_cmd.proofs.MigratedLaws.{is_record, second_record}
-use Rattle.difi_cmd.proofs.OneText.{whole_frames}
 
 -- where two records have the same frames, and headers that differ in form alone, the releases of one are those of the other
 moved : (head : RecordHead) (form : ℕ) (frames : List Frame) (bytes others releases : List ℕ) → IsRecord head frames bytes → IsRecord (record head { form = form }) frames others
     → AreReleasesOf bytes releases → AreReleasesOf others releases
 moved head form frames bytes others releases cut other r =
-    let same = one_standing r.0 head r.1.0 frames bytes (whole_frames r.0 r.1.0 bytes r.1.1.0) (whole_frames head frames bytes cut) in
+    let same = one_standing r.0 head r.1.0 frames bytes (record_stands r.0 r.1.0 bytes r.1.1.0) (record_stands head frames bytes cut) in
     let out : IsOutOf head frames releases =
     subst (λ (h : RecordHead). IsOutOf h frames releases) same.0 (subst (λ fs. IsOutOf r.0 fs releases) same.1 r.1.1.1) in
     (record head { form = form }, (frames, (other, same_out_bytes head form frames releases out)))
@@ -68,5 +67,5 @@ migrated_so_far bytes text releases (inr m) =
     let head = m.0 in
     let frames = m.1.0 in
     let has = m.1.1.0 in
-    let second = whole_frames (in_second_form head) frames text (second_record head frames has.cut.body text has.cut.framed m.1.1.1) in
+    let second = record_stands (in_second_form head) frames text (second_record head frames has.cut.body text has.cut.framed m.1.1.1) in
     (part_moved head 2 frames bytes text releases has second, part_moved (in_second_form head) head.form frames text bytes releases second has)

@@ -9,6 +9,8 @@ mod encoding;
 mod fields;
 mod front;
 mod positions;
+#[cfg(test)]
+mod push_tests;
 mod pushing;
 mod reading;
 mod refusal;

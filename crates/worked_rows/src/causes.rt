@@ -1,6 +1,6 @@
 //! Faults of the source and the sink at each call.
 
-use crate::records::{front, header, read_fails, run_with, write_fails};
+use crate::records::{Fault, fails, front, header, run_with};
 use difi_cmd::Status;
 use std::alloc::Global;
 use std::test::Fail;
@@ -22,10 +22,10 @@ fn a_read_that_fails_is_told_behind_the_frames_before(rt: HostRuntime) -> Result
     // 468 bytes in pieces of 100 are five reads, the fifth makes the frame whole, and a sixth tells
     // the end.
     for call in 1..6 {
-        assert!(rt; read_fails(&rt, alloc, &["check"], bytes, 100, call, b"")?);
+        assert!(rt; fails(&rt, alloc, &["check"], bytes, 100, Fault::Read(call), b"")?);
     }
     let line = front(TEXT.as_bytes(), 35);
-    assert!(rt; read_fails(&rt, alloc, &["check"], bytes, 100, 6, line)?);
+    assert!(rt; fails(&rt, alloc, &["check"], bytes, 100, Fault::Read(6), line)?);
     let outcome = run_with(&rt, alloc, bytes, 100, &[7], &[])?;
     assert!(rt; outcome.status == Status::Done);
     assert_eq!(rt; outcome.text.as_slice(), TEXT.as_bytes());
@@ -40,7 +40,7 @@ fn a_write_that_fails_is_told_behind_what_was_written(rt: HostRuntime) -> Result
     // A line of 35 bytes in pieces of 10 is four writes, and the last one of 24 bytes is three.
     for (call, held) in [(1, 0), (2, 10), (3, 20), (4, 30), (5, 35), (6, 45), (7, 55)] {
         let text = front(TEXT.as_bytes(), held);
-        assert!(rt; write_fails(&rt, alloc, &["check"], bytes, 10, call, text)?);
+        assert!(rt; fails(&rt, alloc, &["check"], bytes, 10, Fault::Write(call), text)?);
     }
     let outcome = run_with(&rt, alloc, bytes, 10, &[], &[8])?;
     assert!(rt; outcome.status == Status::Done);

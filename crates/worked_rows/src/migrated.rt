@@ -1,6 +1,6 @@
 //! `migrate`: the header in form 2, and the frames as they stand.
 
-use crate::records::{read_fails, run_line, write_fails, writes};
+use crate::records::{Fault, fails, run_line, writes};
 use difi_cmd::Status;
 use std::alloc::{AllocError, Global};
 use std::test::Fail;
@@ -128,11 +128,11 @@ fn a_failed_read_or_write_ends_it(rt: HostRuntime) -> Result<(), Fail> {
     let text = migrated(alloc)?;
     push_frames(&mut bytes, alloc)?;
     let record = bytes.as_slice();
-    assert!(rt; read_fails(&rt, alloc, &["migrate"], record, 340, 1, b"")?);
-    assert!(rt; read_fails(&rt, alloc, &["migrate"], record, 340, 2, text.as_slice())?);
+    assert!(rt; fails(&rt, alloc, &["migrate"], record, 340, Fault::Read(1), b"")?);
+    assert!(rt; fails(&rt, alloc, &["migrate"], record, 340, Fault::Read(2), text.as_slice())?);
     // The header takes two writes.
-    assert!(rt; write_fails(&rt, alloc, &["migrate"], record, 340, 1, b"")?);
-    assert!(rt; write_fails(&rt, alloc, &["migrate"], record, 340, 3, text.as_slice())?);
+    assert!(rt; fails(&rt, alloc, &["migrate"], record, 340, Fault::Write(1), b"")?);
+    assert!(rt; fails(&rt, alloc, &["migrate"], record, 340, Fault::Write(3), text.as_slice())?);
     Ok(())
 }
 

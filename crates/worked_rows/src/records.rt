@@ -70,36 +70,35 @@ pub fn writes<R: Threads + Sync>(
     Ok(true)
 }
 
-/// Whether the run of which this read fails is told so, and wrote this text before.
-pub fn read_fails<R: Threads + Sync>(
-    rt: &R,
-    alloc: Global,
-    line: &[&str],
-    record: &[u8],
-    piece: usize,
-    call: u64,
-    text: &[u8],
-) -> Result<bool, Fail>
-    requires { 1 ≤ piece }
-{
-    let outcome = run_line(rt, alloc, line, record, piece, &[call], &[])?;
-    Ok(outcome.status == Status::ReadFault && outcome.text.as_slice() == text)
+/// The read or the write of a run that fails, counted from 1.
+pub enum Fault {
+    Read(u64),
+    Write(u64),
 }
 
-/// Whether the run of which this write fails is told so, and wrote this text before.
-pub fn write_fails<R: Threads + Sync>(
+/// Whether the run of which this read or write fails is told so, and wrote this text before.
+pub fn fails<R: Threads + Sync>(
     rt: &R,
     alloc: Global,
     line: &[&str],
     record: &[u8],
     piece: usize,
-    call: u64,
+    fault: Fault,
     text: &[u8],
 ) -> Result<bool, Fail>
     requires { 1 ≤ piece }
 {
-    let outcome = run_line(rt, alloc, line, record, piece, &[], &[call])?;
-    Ok(outcome.status == Status::WriteFault && outcome.text.as_slice() == text)
+    let (outcome, status) = match fault {
+        Fault::Read(call) => (
+            run_line(rt, alloc, line, record, piece, &[call], &[])?,
+            Status::ReadFault,
+        ),
+        Fault::Write(call) => (
+            run_line(rt, alloc, line, record, piece, &[], &[call])?,
+            Status::WriteFault,
+        ),
+    };
+    Ok(outcome.status == status && outcome.text.as_slice() == text)
 }
 
 /// Runs `check` over a record that is read in pieces, and whose listed reads and writes fail.

@@ -1,6 +1,6 @@
 //! `replay` with sources and sinks that fail, with records that end early, and with other words.
 
-use crate::records::{front, read_fails, run_line, write_fails, writes};
+use crate::records::{Fault, fails, front, run_line, writes};
 use crate::releases::{
     START, bytes_of, context, data, data_at_half, end_of_raw, gap_record, raw_at_half, record_of,
     refused, replays, third_context,
@@ -33,10 +33,10 @@ fn a_read_that_fails_is_told_behind_the_releases_before(rt: HostRuntime) -> Resu
     let text = lost_text(alloc)?;
     // 340 reads of a byte for the header, seven for the 436 bytes behind it, and one for the end.
     for call in 1..348 {
-        assert!(rt; read_fails(&rt, alloc, &["replay"], bytes, 64, call, b"")?);
+        assert!(rt; fails(&rt, alloc, &["replay"], bytes, 64, Fault::Read(call), b"")?);
     }
     let part = front(text.as_slice(), 48);
-    assert!(rt; read_fails(&rt, alloc, &["replay"], bytes, 64, 348, part)?);
+    assert!(rt; fails(&rt, alloc, &["replay"], bytes, 64, Fault::Read(348), part)?);
     let outcome = run_line(&rt, alloc, &["replay"], bytes, 64, &[349], &[])?;
     assert!(rt; outcome.status == Status::Done);
     assert_eq!(rt; outcome.text.as_slice(), text.as_slice());
@@ -52,7 +52,7 @@ fn a_write_that_fails_is_told_behind_what_was_written(rt: HostRuntime) -> Result
     // Three writes of 16 bytes, and four at the end.
     for (call, held) in [(1, 0), (2, 16), (3, 32), (4, 48), (5, 64), (6, 80), (7, 96)] {
         let part = front(text.as_slice(), held);
-        assert!(rt; write_fails(&rt, alloc, &["replay"], bytes, 16, call, part)?);
+        assert!(rt; fails(&rt, alloc, &["replay"], bytes, 16, Fault::Write(call), part)?);
     }
     let outcome = run_line(&rt, alloc, &["replay"], bytes, 16, &[], &[8])?;
     assert!(rt; outcome.status == Status::Done);
@@ -79,8 +79,8 @@ fn of_a_read_and_a_write_that_fail_the_first_is_told(rt: HostRuntime) -> Result<
 fn the_first_call_may_fail(rt: HostRuntime) -> Result<(), Fail> {
     let record = record_of(rt.alloc(), &HEADER, &[])?;
     let bytes = record.as_slice();
-    assert!(rt; read_fails(&rt, rt.alloc(), &["replay"], bytes, 4096, 1, b"")?);
-    assert!(rt; write_fails(&rt, rt.alloc(), &["replay"], bytes, 4096, 1, b"")?);
+    assert!(rt; fails(&rt, rt.alloc(), &["replay"], bytes, 4096, Fault::Read(1), b"")?);
+    assert!(rt; fails(&rt, rt.alloc(), &["replay"], bytes, 4096, Fault::Write(1), b"")?);
     Ok(())
 }
 
