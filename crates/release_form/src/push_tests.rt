@@ -61,7 +61,13 @@ fn records_without_samples_stand_behind_other_bytes(rt: HostRuntime) -> Result<(
 #[test]
 fn packets_stand_behind_other_bytes(rt: HostRuntime) -> Result<(), NoMemory> {
     let alloc = rt.alloc();
-    is_pushed(&rt, alloc, &Shown::Version { port: 9 }, &VERSION[3..], &VERSION)?;
+    is_pushed(
+        &rt,
+        alloc,
+        &Shown::Version { port: 9 },
+        &VERSION[3..],
+        &VERSION,
+    )?;
     is_pushed(&rt, alloc, &Shown::Ack { port: 5 }, &ACK[3..], &ACK)
 }
 
@@ -122,7 +128,24 @@ fn more_samples_than_a_block_are_unpacked(rt: HostRuntime) -> Result<(), NoMemor
     pushed.push(b"before");
     push_run(1, 9, 0, &run, &four_bit_payload(), &mut pushed);
     // 16 words in front, and one for each sample: 0x4E8 bytes behind the first two.
-    let front = [2, 0x4E8, 1, 9, 0, 5, 0, 0x6553_F100, 0, 0, 4, 300, 0, 0, 0, 7];
+    let front = [
+        2,
+        0x4E8,
+        1,
+        9,
+        0,
+        5,
+        0,
+        0x6553_F100,
+        0,
+        0,
+        4,
+        300,
+        0,
+        0,
+        0,
+        7,
+    ];
     let mut record = [0; 64];
     put_words(&mut record, 0, &front);
     let mut expected = TextBuffer::open(rt.alloc())?;

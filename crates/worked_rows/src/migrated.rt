@@ -129,10 +129,30 @@ fn a_failed_read_or_write_ends_it(rt: HostRuntime) -> Result<(), Fail> {
     push_frames(&mut bytes, alloc)?;
     let record = bytes.as_slice();
     assert!(rt; fails(&rt, alloc, &["migrate"], record, 340, Fault::Read(1), b"")?);
-    assert!(rt; fails(&rt, alloc, &["migrate"], record, 340, Fault::Read(2), text.as_slice())?);
+    assert!(rt;
+        fails(
+            &rt,
+            alloc,
+            &["migrate"],
+            record,
+            340,
+            Fault::Read(2),
+            text.as_slice()
+        )?
+    );
     // The header takes two writes.
     assert!(rt; fails(&rt, alloc, &["migrate"], record, 340, Fault::Write(1), b"")?);
-    assert!(rt; fails(&rt, alloc, &["migrate"], record, 340, Fault::Write(3), text.as_slice())?);
+    assert!(rt;
+        fails(
+            &rt,
+            alloc,
+            &["migrate"],
+            record,
+            340,
+            Fault::Write(3),
+            text.as_slice()
+        )?
+    );
     Ok(())
 }
 

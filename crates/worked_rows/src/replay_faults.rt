@@ -79,8 +79,28 @@ fn of_a_read_and_a_write_that_fail_the_first_is_told(rt: HostRuntime) -> Result<
 fn the_first_call_may_fail(rt: HostRuntime) -> Result<(), Fail> {
     let record = record_of(rt.alloc(), &HEADER, &[])?;
     let bytes = record.as_slice();
-    assert!(rt; fails(&rt, rt.alloc(), &["replay"], bytes, 4096, Fault::Read(1), b"")?);
-    assert!(rt; fails(&rt, rt.alloc(), &["replay"], bytes, 4096, Fault::Write(1), b"")?);
+    assert!(rt;
+        fails(
+            &rt,
+            rt.alloc(),
+            &["replay"],
+            bytes,
+            4096,
+            Fault::Read(1),
+            b""
+        )?
+    );
+    assert!(rt;
+        fails(
+            &rt,
+            rt.alloc(),
+            &["replay"],
+            bytes,
+            4096,
+            Fault::Write(1),
+            b""
+        )?
+    );
     Ok(())
 }
 
