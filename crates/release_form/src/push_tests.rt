@@ -106,10 +106,11 @@ fn runs_stand_behind_other_bytes(rt: HostRuntime) -> Result<(), NoMemory> {
 // 304 samples of 4 bits, each a byte: number k is k modulo 8, and k + 1 modulo 8.
 fn four_bit_payload() -> [u8; 304] {
     let mut payload = [0; 304];
-    let mut k = 0;
+    let mut k: u8 = 0;
     for byte in &mut payload {
-        *byte = k << 4 | (k + 1) % 8;
-        k = (k + 1) % 8;
+        let next = k.wrapping_add(1);
+        *byte = k % 8 << 4 | next % 8;
+        k = next;
     }
     payload
 }
@@ -152,11 +153,9 @@ fn more_samples_than_a_block_are_unpacked(rt: HostRuntime) -> Result<(), NoMemor
     expected.push(b"before");
     expected.push(&record);
     let mut sample = [0; 4];
-    let mut k = 4;
-    for _ in 0..300 {
-        put_word(&mut sample, 0, k << 16 | (k + 1) % 8);
+    for k in 4..304 {
+        put_word(&mut sample, 0, k % 8 << 16 | (k + 1) % 8);
         expected.push(&sample);
-        k = (k + 1) % 8;
     }
     assert_eq!(rt; pushed.as_slice(), expected.as_slice());
     Ok(())
