@@ -1,0 +1,4 @@
+pub mod Site
+pub mod Delivered
+pub mod Cause
+pub mod Truth

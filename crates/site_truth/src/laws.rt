@@ -1,0 +1,7 @@
+ghost use Rattle.std.specs.Prelude.{◌≡◌, ℕ};
+
+/// Nothing yet.
+#[inline]
+pub fn nothing()
+    ensures { (n : ℕ) → n ≡ n }
+{}
