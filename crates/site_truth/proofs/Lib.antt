@@ -1,2 +1,4 @@
 pub mod ListLemmas
 pub mod NumberLemmas
+pub mod ToldLemmas
+pub mod MarkLemmas
