@@ -2,3 +2,4 @@ pub mod ListLemmas
 pub mod NumberLemmas
 pub mod ToldLemmas
 pub mod MarkLemmas
+pub mod RunLemmas
