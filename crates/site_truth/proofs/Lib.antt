@@ -3,3 +3,4 @@ pub mod NumberLemmas
 pub mod ToldLemmas
 pub mod MarkLemmas
 pub mod RunLemmas
+pub mod OutputLemmas
