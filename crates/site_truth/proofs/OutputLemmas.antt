@@ -5,7 +5,7 @@ use Rattle.std.proofs.lemmas.Bool.Decides.{nat_tests}
 use Rattle.std.proofs.lemmas.List.{append-nil, get_or-take, length-take-le, take-append-le, take-append-drop, take_all}
 use Rattle.std.proofs.lemmas.Option.{slice_get_cases}
 use Rattle.vrt_header.specs.Profile.{PacketProfile}
-use Rattle.context_timeline.specs.Line.{line_of}
+use Rattle.context_timeline.specs.Line.{line_of, timed_context}
 use Rattle.context_timeline.specs.Marks.{mark_in}
 use Rattle.context_timeline.specs.declared.timed_context.TimedContext.{TimedContext}
 use Rattle.reorder_window.specs.Delivery.{occurs}
@@ -28,7 +28,7 @@ use Rattle.sample_binder.proofs.LawLemmas.{due_told}
 use Rattle.sample_binder.proofs.StateLemmas.{has_ended-append, sampling_of}
 use Rattle.site_truth.specs.Site.{Site, IsSite, IsSteady, fields_at, packet_stamp}
 use Rattle.site_truth.specs.Delivered.{Delivery, IsDelivered, all_calls, all_events, buffer_of, absent_before}
-use Rattle.site_truth.specs.Cause.{Left, IsLeft, IsCause}
+use Rattle.site_truth.specs.Cause.{Left, AreContextsOf, IsLeft, IsCause}
 use Rattle.site_truth.specs.Truth.{IsTruePart, AreTrue}
 use Rattle.site_truth.proofs.ListLemmas.{slice_get-front, slice_get-within, slice_get-left, slice_get-end, occurs-at}
 use Rattle.site_truth.proofs.MarkLemmas.{AreContextsKnown, NoneOfThemAfter, IsTrueMark, mark_is_true}
@@ -218,6 +218,16 @@ module _ (delivery : Delivery) (h : IsGivenTrue delivery) where
       rates = h.rates;
     }
 
+    released : AreContextsOf delivery left.contexts (contexts_of seen)
+    released = record {
+      long = sym (length-take-le c contexts few);
+      each = λ i there. let inside : i < c = omega (arith, there, length-take-le c contexts few) in (
+        absent_before delivery.contexts contexts i,
+        ap (λ cs. slice_get cs i) (contexts_first (suc e) events) ∙ slice_get-front c (contexts_of events) i inside ∙ h.contexts.each i (omega (arith, few))
+        ∙ ap (λ k. Some (timed_context (delivery.site.context k) (absent_before delivery.contexts contexts i))) (sym (get_or-take c contexts i 0 inside)),
+      );
+    }
+
     abbrev part : Part
     part = record {
       buf = buffer_of delivery n;
@@ -233,7 +243,7 @@ module _ (delivery : Delivery) (h : IsGivenTrue delivery) where
         buf = refl;
         lost = refl;
         left = left;
-        is_left = record { event = e; is_due = is_due; contexts_then = refl; packets_then = omega (arith, within) };
+        is_left = record { event = e; is_due = is_due; contexts_then = refl; are_released = released; packets_then = omega (arith, within) };
         runs = packet_true delivery left n (contexts_of seen) (line_after kept seen) (open_reason (has_ended seen)) leaving;
       };
     }

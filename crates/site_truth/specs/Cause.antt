@@ -1,5 +1,7 @@
 -- Why no context is given for a moment.
-use Rattle.std.specs.Prelude.{◌≡◌, ℕ, suc, ◌+◌, ◌<◌, ◌≤◌, nat_lt, true, false, List, length, take, filter, Some}
+use Rattle.std.specs.Prelude.{◌≡◌, ℕ, suc, ◌+◌, ◌<◌, ◌≤◌, nat_lt, true, false, List, length, take, filter, slice_get, slice_index, Some}
+use Rattle.context_timeline.specs.declared.timed_context.TimedContext.{TimedContext}
+use Rattle.context_timeline.specs.Line.{timed_context}
 use Rattle.sample_binder.specs.declared.reason.Reason.{Reason}
 use Rattle.sample_binder.specs.declared.reason.Reason.TheVariants.{BeforeFirst, ContextLost, PendingFull, TimelineFull, Ended, FormatChanged, Shape}
 use Rattle.sample_binder.specs.Due.{due}
@@ -13,12 +15,18 @@ pub record Left : Type 0 where
   pub contexts : List ℕ
   pub later : ℕ
 
+-- what was released are the contexts of these numbers, in this order
+pub record AreContextsOf (delivery : Delivery) (numbers : List ℕ) (released : List TimedContext) : Type 0 where
+  pub long : length released ≡ length numbers
+  pub each : (i : ℕ) → i < length numbers → (lost : ℕ) × (slice_get released i ≡ Some (timed_context (delivery.site.context (slice_index numbers i)) lost))
+
 -- the j-th data packet that is released, from 0, leaves at its due event; of the contexts that arrive, which are these in the
 -- order of sending, the first ones are released by then
 pub record IsLeft (delivery : Delivery) (contexts : List ℕ) (j : ℕ) (left : Left) : Type 0 where
   pub event : ℕ
   pub is_due : due delivery.limits (all_events delivery) j ≡ Some event
   pub contexts_then : left.contexts ≡ take (length (contexts_of (take (suc event) (all_events delivery)))) contexts
+  pub are_released : AreContextsOf delivery left.contexts (contexts_of (take (suc event) (all_events delivery)))
   pub packets_then : j + 1 + left.later ≡ length (packets_of (take (suc event) (all_events delivery)))
 
 -- contexts a and b are neighbours among those that arrive, a not after t and b after t; between them n are absent, one at least

@@ -80,6 +80,7 @@ pub record IsSite (profile : PacketProfile) (most_words : ℕ) (site : Site) : T
   pub packets : IsSent first_packet site.packets_sent (packet_sent site)
   pub are_contexts : (k : ℕ) → k < site.contexts_sent → IsSpelled profile (site.context k)
   pub are_packets : (n : ℕ) → n < site.packets_sent → IsDataOf profile (site.packet n)
-  pub most : (n : ℕ) → n < site.packets_sent → length (words_of (site.packet n)) ≤ most_words
+  pub most_of_context : 0 < site.contexts_sent → 27 ≤ most_words
+  pub most_of_packet : (n : ℕ) → n < site.packets_sent → length (words_of (site.packet n)) ≤ most_words
   pub unchanged : (k : ℕ) → k + 1 < site.contexts_sent → (site.context (k + 1)).changed ≡ false → fields_at site (k + 1) ≡ fields_at site k
   pub are_steady : (n : ℕ) → n < site.packets_sent → IsSteady site n
