@@ -4,3 +4,4 @@ pub mod ToldLemmas
 pub mod MarkLemmas
 pub mod RunLemmas
 pub mod OutputLemmas
+pub mod ConsequenceLemmas
