@@ -1,8 +1,6 @@
 -- What follows where outputs are true.
-use Rattle.std.proofs.Common.{◌≡◌, ◌⊎◌, ℕ, suc, zero, ◌+◌, ◌-◌, ◌<◌, ◌≤◌, nat_lt, not, Bool, true, false, cond, List, [], ◌∷◌, ◌++◌, length, take, filter, get_or, slice_get, Option, Some, None, refl, sym, ap, ◌∙◌, subst, inl, inr, arith}
+use Rattle.std.proofs.Common.{◌≡◌, ◌⊎◌, ℕ, suc, zero, ◌+◌, ◌-◌, ◌<◌, ◌≤◌, nat_lt, not, Bool, true, false, cond, List, [], ◌∷◌, length, take, filter, get_or, slice_get, Some, refl, sym, ap, ◌∙◌, subst, inl, inr, arith}
 use Rattle.std.proofs.lemmas.Bool.{cases_lt, false≢true}
-use Rattle.std.proofs.lemmas.Bool.Decides.{eqb_tells}
-use Rattle.std.proofs.lemmas.List.{length-take-le}
 use Rattle.std.proofs.lemmas.Option.{slice_get_cases}
 use Rattle.std.specs.List.{range_with_len}
 use Rattle.vrt_time.specs.Time.{moment_of}
@@ -17,15 +15,15 @@ use Rattle.sample_binder.specs.declared.reason.Reason.TheVariants as reason
 use Rattle.sample_binder.specs.declared.run.Run.{Run}
 use Rattle.sample_binder.specs.declared.run.Run.TheVariants as run
 use Rattle.sample_binder.specs.Calls.{data_stamp, outputs_of}
-use Rattle.sample_binder.specs.Events.{contexts_of, packets_of}
-use Rattle.sample_binder.specs.Parts.{Part, outs_of, samples_of}
+use Rattle.sample_binder.specs.Events.{contexts_of}
+use Rattle.sample_binder.specs.Parts.{Part, samples_of}
 use Rattle.site_truth.specs.Site.{Site, IsSite, IsInForce, DividesInto, context_moment, packet_moment, sample_moment}
 use Rattle.site_truth.specs.Delivered.{Delivery, IsDelivered, AreInOrder, all_calls, all_events, buffer_of}
-use Rattle.site_truth.specs.Cause.{Left, IsLeft, IsCause, number_after}
-use Rattle.site_truth.specs.Truth.{AreInForce, Sampled, IsTrueRun, AreTrueRuns, IsTrueRaw, IsTrueCut, IsTruePart, AreTrue}
+use Rattle.site_truth.specs.Cause.{Left, IsLeft, IsCause}
+use Rattle.site_truth.specs.Truth.{AreInForce, Sampled, IsTrueRun, AreTrueRuns, IsTrueRaw, IsTrueCut, AreTrue}
 use Rattle.site_truth.specs.Consequences.{Tells, Binds, IsToldOnce, IsRawPart, IsCutPart, LeavesOnce, IsBoundIn, IsKnown, IsUnlost, IsWithin}
 use Rattle.site_truth.proofs.ListLemmas.{slice_get-within}
-use Rattle.site_truth.proofs.ToldLemmas.{packets_told, packets_fewer, ArePacketsTold}
+use Rattle.site_truth.proofs.ToldLemmas.{packets_told, packets_fewer}
 use Rattle.site_truth.proofs.OutputLemmas.{outputs_are_true}
 
 -- ---- one context is in force
@@ -68,12 +66,12 @@ module _ (delivery : Delivery) (left : Left) (sampled : Sampled) where
   told_once [] from h m le lt = absurd (omega (arith, h))
   told_once (x ∷ xs) from h m le lt = elim (cases_lt m (from + samples_of x)) [
     | inl here ↦ record {
-        place = 0;
-        run = x;
-        there = refl;
-        tells = from_tells from x m h.0 le here;
-        only = λ other another e t. first_only other another e t here;
-      }
+      place = 0;
+      run = x;
+      there = refl;
+      tells = from_tells from x m h.0 le here;
+      only = λ other another e t. first_only other another e t here;
+    }
     | inr later ↦
         let r = told_once xs (from + samples_of x) h.1 m later lt in
         record {
@@ -161,8 +159,13 @@ part_samples : (delivery : Delivery) (left : Left) (n : ℕ) (part : Part) → I
     → IsRawPart delivery n part ⊎ IsCutPart delivery n part
 part_samples delivery left n part h = elim h [
   | inl raw ↦ inl (raw.reason, raw.runs_are)
-  | inr cut ↦ inr (cut.context, cut.number, cut.in_force, cut.divides,
-      λ m lt. told_once delivery left (record { packet = n; context = cut.context; number = cut.number }) part.runs 0 cut.runs_are m (omega arith) lt)
+  | inr cut ↦ inr (
+    cut.context,
+    cut.number,
+    cut.in_force,
+    cut.divides,
+    λ m lt. told_once delivery left (record { packet = n; context = cut.context; number = cut.number }) part.runs 0 cut.runs_are m (omega arith) lt,
+  )
 ]
 
 pub leaves_once : (profile : PacketProfile) (most : ℕ) (delivery : Delivery) (n : ℕ) → IsSite profile most delivery.site → IsDelivered delivery → occurs n delivery.packets ≡ true
@@ -258,7 +261,7 @@ module _ (profile : PacketProfile) (most : ℕ) (delivery : Delivery) (s : IsSit
   no_cause contexts j left h l some t from before (reason.ContextLost n) c =
       let sent = d.contexts.sent c.b c.b_arrived in
       let none : number_absent delivery.contexts c.a c.b ≡ 0 = no_neighbours delivery.contexts c.a c.b c.ordered (λ m above below.
-          false≢true (sym (c.neighbours m above below) ∙ u.contexts m (omega (arith, sent)))) in
+      false≢true (sym (c.neighbours m above below) ∙ u.contexts m (omega (arith, sent)))) in
       omega (arith, c.absent, c.some, none)
   no_cause contexts j left h l some t from before reason.BeforeFirst c = let r = c 0 (u.contexts 0 some) in omega (arith, r)
   no_cause contexts j left h l some t from before reason.TimelineFull c =

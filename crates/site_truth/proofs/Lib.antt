@@ -5,3 +5,5 @@ pub mod MarkLemmas
 pub mod RunLemmas
 pub mod OutputLemmas
 pub mod ConsequenceLemmas
+pub mod FinalLemmas
+pub mod Examples

@@ -1,14 +1,13 @@
 -- What each mark says of a delivery: which context is in force, or why none is said to be.
-use Rattle.std.proofs.Common.{◌≡◌, ◌⊎◌, ℕ, suc, zero, ◌+◌, ◌-◌, ◌<◌, ◌≤◌, ltb, nat_lt, not, Bool, true, false, List, [], ◌∷◌, length, take, drop, filter, get_or, slice_get, Option, Some, None, refl, sym, ap, ◌∙◌, subst, inl, inr, arith, length-drop}
-use Rattle.std.proofs.lemmas.Bool.{cases_lt, false≢true}
-use Rattle.std.proofs.lemmas.Bool.Decides.{eqb_tells}
+use Rattle.std.proofs.Common.{◌≡◌, ℕ, suc, zero, ◌+◌, ◌-◌, ◌<◌, ◌≤◌, nat_lt, not, Bool, true, false, List, length, take, drop, filter, get_or, slice_get, Some, refl, sym, ap, ◌∙◌, subst, inl, inr, arith, length-drop}
+use Rattle.std.proofs.lemmas.Bool.{cases_lt}
 use Rattle.std.proofs.lemmas.List.{length-map, drop-map, get_or-drop, get_or-take, length-take-le}
 use Rattle.std.specs.List.{range_with_len}
 use Rattle.vrt_time.specs.Time.{moment_of}
 use Rattle.context_timeline.specs.declared.timed_context.TimedContext.{TimedContext}
 use Rattle.context_timeline.specs.declared.mark.Mark.{Mark}
 use Rattle.context_timeline.specs.declared.mark.Mark.TheVariants as mark
-use Rattle.context_timeline.specs.AllContexts.{IsKept, AllKeptAfter, NoKeptAfter, IsSame, IsWhole, IsBetween, IsLost, IsBound, IsMark}
+use Rattle.context_timeline.specs.AllContexts.{AllKeptAfter, NoKeptAfter, IsBetween, IsLost, IsBound, IsMark}
 use Rattle.context_timeline.specs.Line.{IsRising, line_of, moments, keep_last}
 use Rattle.context_timeline.specs.Marks.{mark_in}
 use Rattle.context_timeline.proofs.AllContextsLaws.{IsMark-mark_in}
@@ -19,7 +18,7 @@ use Rattle.sample_binder.specs.Events.{contexts_of}
 use Rattle.site_truth.specs.Site.{Site, IsInForce, context_sent, context_moment, fields_at}
 use Rattle.site_truth.specs.Delivered.{Delivery, all_events}
 use Rattle.site_truth.specs.Cause.{IsLostAround, AllAfter, number_after}
-use Rattle.site_truth.specs.Truth.{IsHealed, AreInForce}
+use Rattle.site_truth.specs.Truth.{AreInForce}
 use Rattle.site_truth.proofs.ListLemmas.{slice_get-front, slice_get-within, place_among, last_pass}
 use Rattle.site_truth.proofs.ToldLemmas.{context_told, AreContextsTold}
 
@@ -146,24 +145,24 @@ module _ (delivery : Delivery) (known : AreContextsKnown delivery) (told : AreCo
       let alike : fields_at site (at i) ≡ fields_at site lost = same ∙ ap (λ k. fields_at site k) next ∙ copied in
       elim (cases_lt t (moment lost)) [
         | inl before ↦ record {
-            context = at i;
-            in_force = is_in_force t (at i) lost refl (omega arith) h.reached before;
-            fields_are = refl;
-            known = inl (arrived i (omega (arith, h.there)));
-          }
+          context = at i;
+          in_force = is_in_force t (at i) lost refl (omega arith) h.reached before;
+          fields_are = refl;
+          known = inl (arrived i (omega (arith, h.there)));
+        }
         | inr from ↦ record {
-            context = lost;
-            in_force = is_in_force t lost (at (suc i)) next sent from h.not_yet;
-            fields_are = alike;
-            known = inr (record {
-              before = at i;
-              next_to = refl;
-              before_arrived = arrived i (omega (arith, h.there));
-              after_arrived = sym (ap (λ k. occurs k delivery.contexts) next) ∙ arrived (suc i) h.there;
-              unchanged = clear_next;
-              same = sym alike;
-            });
-          }
+          context = lost;
+          in_force = is_in_force t lost (at (suc i)) next sent from h.not_yet;
+          fields_are = alike;
+          known = inr (record {
+            before = at i;
+            next_to = refl;
+            before_arrived = arrived i (omega (arith, h.there));
+            after_arrived = sym (ap (λ k. occurs k delivery.contexts) next) ∙ arrived (suc i) h.there;
+            unchanged = clear_next;
+            same = sym alike;
+          });
+        }
       ]
 
   lost_around : (t i : ℕ) → IsAround t i → 1 ≤ number_absent delivery.contexts (at i) (at (suc i)) → IsLostAround delivery t (number_absent delivery.contexts (at i) (at (suc i)))
@@ -265,12 +264,14 @@ module _ (delivery : Delivery) (known : AreContextsKnown delivery) (told : AreCo
     bound_told t place fields h =
         let r = around t place h.a h.b h.between in
         let are : fields ≡ fields_at site (at place) = h.fields_told ∙ ap (λ (x : TimedContext). x.fields) r.1 in
-        let lost : h.b.lost ≡ number_absent delivery.contexts (at place) (at (suc place)) = ap (λ (x : TimedContext). x.lost) r.2 in
-        (subst (AreInForce delivery t) (sym are) (elim h.whole [
-          | inl none ↦ bound_whole t place r.0 (sym lost ∙ none)
-          | inr same ↦ bound_healed t place r.0 (sym lost ∙ same.one) (sym (ap (λ (x : TimedContext). x.changed) r.2) ∙ same.unchanged)
-              (sym (ap (λ (x : TimedContext). x.fields) r.1) ∙ same.fields ∙ ap (λ (x : TimedContext). x.fields) r.2)
-        ]), record { context = h.a; there = h.between.first; are = h.fields_told })
+        let lost : h.b.lost ≡ number_absent delivery.contexts (at place) (at (suc place)) = ap (λ (x : TimedContext). x.lost) r.2 in (
+          subst (AreInForce delivery t) (sym are) (elim h.whole [
+            | inl none ↦ bound_whole t place r.0 (sym lost ∙ none)
+            | inr same ↦ bound_healed t place r.0 (sym lost ∙ same.one) (sym (ap (λ (x : TimedContext). x.changed) r.2) ∙ same.unchanged)
+                (sym (ap (λ (x : TimedContext). x.fields) r.1) ∙ same.fields ∙ ap (λ (x : TimedContext). x.fields) r.2)
+          ]),
+          record { context = h.a; there = h.between.first; are = h.fields_told },
+        )
 
     lost_told : (t n : ℕ) → IsLost kept contexts t n → IsLostAround delivery t n
     lost_told t n h =

@@ -1,13 +1,12 @@
 -- The numbers that arrived in the order of sending, and the releases of their packets.
-use Rattle.std.proofs.Common.{◌≡◌, ◌⊎◌, ℕ, suc, zero, ◌+◌, ◌-◌, ◌<◌, ◌≤◌, min, true, List, [], ◌∷◌, ◌++◌, map, length, take, drop, get_or, slice_get, Some, refl, sym, ap, ◌∙◌, subst, inl, inr, arith, length-append}
+use Rattle.std.proofs.Common.{◌≡◌, ℕ, suc, zero, ◌+◌, ◌<◌, true, List, [], ◌∷◌, ◌++◌, map, length, drop, get_or, slice_get, Some, refl, sym, ap, ◌∙◌, subst, inl, inr, arith, length-append}
 use Rattle.std.proofs.lemmas.Bool.{cases_lt}
-use Rattle.std.proofs.lemmas.List.{get_or_append_left, length-map}
+use Rattle.std.proofs.lemmas.List.{get_or_append_left}
 use Rattle.std.specs.List.{AllByRecursion}
 use Rattle.vrt_time.specs.Time.{TimeStamp}
-use Rattle.context_timeline.specs.Line.{IsRising}
 use Rattle.reorder_window.specs.declared.entry.Entry.{Entry}
 use Rattle.reorder_window.specs.Delivery.{IsSent, IsDelivery, occurs, AreLess, NumbersFall, AreNumbersOf, AreDistances, number_absent, IsTold}
-use Rattle.reorder_window.specs.Window.{accepted, number_held, lost_before, release, in_order}
+use Rattle.reorder_window.specs.Window.{number_held, lost_before, release, in_order}
 use Rattle.reorder_window.proofs.DeliveryLemmas.{told-drained}
 use Rattle.sample_binder.specs.Calls.{all_releases}
 use Rattle.site_truth.specs.Delivered.{AreInOrder, absent_before}

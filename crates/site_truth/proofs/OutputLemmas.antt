@@ -1,5 +1,5 @@
 -- The outputs of a delivery are true.
-use Rattle.std.proofs.Common.{◌≡◌, ◌⊎◌, ◌↔◌, ℕ, suc, zero, ◌+◌, ◌-◌, ◌<◌, ◌≤◌, ◌&&◌, ◌||◌, nat_le, nat_lt, Bool, true, false, List, [], ◌∷◌, ◌++◌, map, length, take, drop, get_or, slice_get, Option, Some, None, refl, sym, ap, ◌∙◌, subst, inl, inr, arith, append_assoc, length-append}
+use Rattle.std.proofs.Common.{◌≡◌, ◌⊎◌, ℕ, suc, zero, ◌+◌, ◌-◌, ◌<◌, ◌≤◌, ◌&&◌, ◌||◌, nat_le, nat_lt, Bool, true, false, List, [], ◌∷◌, ◌++◌, length, take, drop, get_or, slice_get, Option, Some, None, refl, sym, ap, ◌∙◌, subst, inl, inr, arith, append_assoc, length-append}
 use Rattle.std.proofs.lemmas.Bool.{cases_lt, false≢true}
 use Rattle.std.proofs.lemmas.Bool.Decides.{nat_tests}
 use Rattle.std.proofs.lemmas.List.{append-nil, get_or-take, length-take-le, take-append-le, take-append-drop, take_all}
@@ -10,9 +10,7 @@ use Rattle.context_timeline.specs.Marks.{mark_in}
 use Rattle.context_timeline.specs.declared.timed_context.TimedContext.{TimedContext}
 use Rattle.reorder_window.specs.Delivery.{occurs}
 use Rattle.vrt_fields.specs.declared.limits.Limits.{Limits}
-use Rattle.sample_binder.specs.declared.reason.Reason.{Reason}
 use Rattle.sample_binder.specs.declared.reason.Reason.TheVariants as reason
-use Rattle.sample_binder.specs.declared.out.Out.{Out}
 use Rattle.sample_binder.specs.Calls.{outputs_of, shape_in}
 use Rattle.sample_binder.specs.Due.{is_known, first_below, first_from, may_leave, has_case, has_case_after, due}
 use Rattle.sample_binder.specs.Events.{Event, EndEvent, contexts_of, packets_of, has_ended, line_after}
@@ -26,9 +24,9 @@ use Rattle.sample_binder.proofs.DueLaws.{may_leave-below}
 use Rattle.sample_binder.proofs.FirstLaws.{first_below-none_passes}
 use Rattle.sample_binder.proofs.LawLemmas.{due_told}
 use Rattle.sample_binder.proofs.StateLemmas.{has_ended-append, sampling_of}
-use Rattle.site_truth.specs.Site.{Site, IsSite, IsSteady, fields_at, packet_stamp}
+use Rattle.site_truth.specs.Site.{IsSite, IsSteady, fields_at, packet_stamp}
 use Rattle.site_truth.specs.Delivered.{Delivery, IsDelivered, all_calls, all_events, buffer_of, absent_before}
-use Rattle.site_truth.specs.Cause.{Left, AreContextsOf, IsLeft, IsCause}
+use Rattle.site_truth.specs.Cause.{Left, AreContextsOf, IsCause}
 use Rattle.site_truth.specs.Truth.{IsTruePart, AreTrue}
 use Rattle.site_truth.proofs.ListLemmas.{slice_get-front, slice_get-within, slice_get-left, slice_get-end, occurs-at}
 use Rattle.site_truth.proofs.MarkLemmas.{AreContextsKnown, NoneOfThemAfter, IsTrueMark, mark_is_true}
@@ -224,7 +222,7 @@ module _ (delivery : Delivery) (h : IsGivenTrue delivery) where
       each = λ i there. let inside : i < c = omega (arith, there, length-take-le c contexts few) in (
         absent_before delivery.contexts contexts i,
         ap (λ cs. slice_get cs i) (contexts_first (suc e) events) ∙ slice_get-front c (contexts_of events) i inside ∙ h.contexts.each i (omega (arith, few))
-        ∙ ap (λ k. Some (timed_context (delivery.site.context k) (absent_before delivery.contexts contexts i))) (sym (get_or-take c contexts i 0 inside)),
+            ∙ ap (λ k. Some (timed_context (delivery.site.context k) (absent_before delivery.contexts contexts i))) (sym (get_or-take c contexts i 0 inside)),
       );
     }
 

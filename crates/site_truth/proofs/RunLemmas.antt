@@ -1,6 +1,6 @@
 -- The runs in which a packet leaves are true.
-use Rattle.std.proofs.Common.{◌≡◌, ◌⊎◌, ℕ, suc, zero, ◌+◌, ◌-◌, ◌*◌, ◌<◌, ◌≤◌, ◌==◌, ◌&&◌, ◌||◌, nat_lt, not, Bool, true, false, cond, List, [], ◌∷◌, map, length, take, get_or, slice_get, Option, Some, None, refl, sym, ap, ◌∙◌, subst, inl, inr, arith}
-use Rattle.std.proofs.lemmas.Bool.{cases_lt, false≢true}
+use Rattle.std.proofs.Common.{◌≡◌, ◌⊎◌, ℕ, ◌+◌, ◌-◌, ◌<◌, ◌≤◌, ◌==◌, ◌&&◌, ◌||◌, nat_lt, Bool, true, false, cond, List, [], ◌∷◌, map, length, get_or, slice_get, Option, Some, None, refl, sym, ap, ◌∙◌, subst, inl, inr, arith}
+use Rattle.std.proofs.lemmas.Bool.{false≢true}
 use Rattle.std.proofs.lemmas.Bool.Decides.{eqb_tells}
 use Rattle.vrt_time.specs.Time.{TimeStamp, moment_of, capture_at}
 use Rattle.vrt_time.proofs.TimeLaws.{capture_at-le}
@@ -10,14 +10,13 @@ use Rattle.context_timeline.specs.declared.timed_context.TimedContext.{TimedCont
 use Rattle.context_timeline.specs.declared.mark.Mark.{Mark}
 use Rattle.context_timeline.specs.declared.mark.Mark.TheVariants as mark
 use Rattle.context_timeline.specs.Line.{Line, horizon_of}
-use Rattle.context_timeline.specs.Marks.{mark_in, mark_below, mark_between, mark_before, mark_of_pair, last_not_after, is_below, healed}
+use Rattle.context_timeline.specs.Marks.{mark_in, mark_below, mark_between, last_not_after, is_below, healed}
 use Rattle.reorder_window.proofs.OrderLemmas.{ltb-true, ltb_tells}
 use Rattle.sample_binder.specs.declared.label.Label.{Label}
 use Rattle.sample_binder.specs.declared.label.Label.TheVariants as label
 use Rattle.sample_binder.specs.declared.reason.Reason.{Reason}
 use Rattle.sample_binder.specs.declared.reason.Reason.TheVariants as reason
 use Rattle.sample_binder.specs.declared.run.Run.{Run}
-use Rattle.sample_binder.specs.declared.run.Run.TheVariants as run
 use Rattle.sample_binder.specs.Calls.{shape_in}
 use Rattle.sample_binder.specs.Due.{is_known, is_known_by, is_closed}
 use Rattle.sample_binder.specs.Parts.{samples_of}
@@ -25,10 +24,10 @@ use Rattle.sample_binder.specs.Readings.{IsLongest, AreStretches}
 use Rattle.sample_binder.specs.Runs.{same_sampling, label_by, same_reason, same_label, label_at, cut, run_by, run_at, runs_bound, runs_by, runs_of}
 use Rattle.sample_binder.specs.Samples.{rate_in, size_in, number_of}
 use Rattle.sample_binder.proofs.LawLemmas.{longest_told}
-use Rattle.site_truth.specs.Site.{Site, IsSameSampling, IsSteady, IsInForce, DividesInto, fields_at, packet_stamp, packet_moment, packet_pad, sample_moment}
+use Rattle.site_truth.specs.Site.{Site, IsSameSampling, IsSteady, IsInForce, DividesInto, fields_at, packet_stamp, packet_moment, sample_moment}
 use Rattle.site_truth.specs.Delivered.{Delivery}
 use Rattle.site_truth.specs.Cause.{Left, IsCause}
-use Rattle.site_truth.specs.Truth.{AreInForce, Sampled, IsTimed, ForSamples, IsTrueRun, AreTrueRuns, IsTrueRaw, IsTrueCut}
+use Rattle.site_truth.specs.Truth.{AreInForce, Sampled, IsTimed, IsTrueRun, AreTrueRuns, IsTrueRaw, IsTrueCut}
 use Rattle.site_truth.proofs.MarkLemmas.{AreFieldsAt, NoneOfThemAfter, IsTrueMark}
 
 -- ---- where a mark is open
@@ -190,14 +189,20 @@ module _ (delivery : Delivery) (left : Left) (n : ℕ) (contexts : List TimedCon
 
     stretch_true : (from : ℕ) (stretch : ℕ × ℕ) (l : Label) → labels from ≡ l → stretch.0 ≡ from → IsLongest labels number from stretch.1
         → IsTrueRun delivery left sampled from (run_by l (packet_stamp site n) first stretch)
-    stretch_true from stretch (label.Bound place fields) e f g = (timed from stretch f g, λ m le lt.
-        let here : IsTrueLabel delivery left contexts (moment from) (label.Bound place fields) =
-        subst (IsTrueLabel delivery left contexts (moment from)) e (label_true from (omega (arith, g.some, g.within))) in
-        alike_bound delivery left contexts (moment m) place fields (labels m) here.1 (alike_at from m stretch (label.Bound place fields) e f g le lt)
-        (label_true m (omega (arith, f, lt, g.within))))
-    stretch_true from stretch (label.Uncertain cause) e f g = (timed from stretch f g, λ m le lt.
-        alike_uncertain delivery left contexts (moment m) cause (labels m) (alike_at from m stretch (label.Uncertain cause) e f g le lt)
-        (label_true m (omega (arith, f, lt, g.within))))
+    stretch_true from stretch (label.Bound place fields) e f g = (
+      timed from stretch f g,
+      λ m le lt.
+          let here : IsTrueLabel delivery left contexts (moment from) (label.Bound place fields) =
+          subst (IsTrueLabel delivery left contexts (moment from)) e (label_true from (omega (arith, g.some, g.within))) in
+          alike_bound delivery left contexts (moment m) place fields (labels m) here.1 (alike_at from m stretch (label.Bound place fields) e f g le lt)
+          (label_true m (omega (arith, f, lt, g.within))),
+    )
+    stretch_true from stretch (label.Uncertain cause) e f g = (
+      timed from stretch f g,
+      λ m le lt.
+          alike_uncertain delivery left contexts (moment m) cause (labels m) (alike_at from m stretch (label.Uncertain cause) e f g le lt)
+          (label_true m (omega (arith, f, lt, g.within))),
+    )
 
     samples_by : (l : Label) (stretch : ℕ × ℕ) → samples_of (run_by l (packet_stamp site n) first stretch) ≡ stretch.1
     samples_by (label.Bound place fields) stretch = refl
@@ -209,7 +214,7 @@ module _ (delivery : Delivery) (left : Left) (n : ℕ) (contexts : List TimedCon
     runs_true (stretch ∷ stretches) from g = (
       stretch_true from stretch (labels stretch.0) (ap labels (sym g.0)) g.0 g.1,
       subst (λ k. AreTrueRuns delivery left sampled (from + k) (map (run_at line why (packet_stamp site n) first) stretches)) (sym (samples_by (labels stretch.0) stretch))
-      (runs_true stretches (from + stretch.1) g.2),
+          (runs_true stretches (from + stretch.1) g.2),
     )
 
     cut_true : IsTrueCut delivery left n (runs_bound line why (shape_in (packet_stamp site n) (site.packet n)) first (number_of (shape_in (packet_stamp site n) (site.packet n)) (size_in first)))

@@ -1,24 +1,22 @@
 -- The contexts and the data packets of the events of a delivery are those that arrived, in the order of sending; after some of
 -- the events they are the first of these.
-use Rattle.std.proofs.Common.{◌≡◌, ℕ, suc, zero, ◌+◌, ◌<◌, ◌≤◌, List, [], ◌∷◌, ◌++◌, map, length, take, drop, get_or, slice_get, Some, refl, sym, ap, ◌∙◌, subst, arith, true, false, ◌||◌, Bool, length-append}
+use Rattle.std.proofs.Common.{◌≡◌, ℕ, ◌<◌, ◌≤◌, List, [], ◌∷◌, ◌++◌, map, length, take, drop, get_or, slice_get, Some, sym, ap, ◌∙◌, arith, false, length-append}
 use Rattle.std.proofs.lemmas.List.{length-map, take-append-drop}
-use Rattle.vrt_words.specs.Buffer.{Buffer}
 use Rattle.vrt_header.specs.Profile.{PacketProfile}
-use Rattle.difi_context.specs.declared.context.ContextRec.{ContextRec}
 use Rattle.context_timeline.specs.declared.timed_context.TimedContext.{TimedContext}
 use Rattle.context_timeline.specs.Line.{timed_context}
-use Rattle.reorder_window.specs.Delivery.{IsSent, IsDelivery, occurs}
+use Rattle.reorder_window.specs.Delivery.{IsSent}
 use Rattle.sample_binder.specs.Calls.{data_stamp, shape_in, all_releases}
 use Rattle.sample_binder.specs.Events.{Event, EndEvent, contexts_of, packets_of, has_ended}
 use Rattle.sample_binder.specs.Pending.{Pending}
 use Rattle.sample_binder.specs.Readings.{AreAllReleases}
 use Rattle.sample_binder.specs.Released.{released_context, released_packet}
 use Rattle.sample_binder.proofs.GrowLemmas.{are_all_releases}
-use Rattle.sample_binder.proofs.StateLemmas.{contexts_of-append, packets_of-append, has_ended-append}
-use Rattle.site_truth.specs.Site.{Site, IsSite, context_sent, packet_sent}
+use Rattle.sample_binder.proofs.StateLemmas.{contexts_of-append, packets_of-append}
+use Rattle.site_truth.specs.Site.{IsSite, context_sent}
 use Rattle.site_truth.specs.Delivered.{Delivery, IsDelivered, packet_arriving, buffer_of, all_events, AreInOrder, absent_before}
-use Rattle.site_truth.proofs.ListLemmas.{slice_get-map, slice_get-within, take-all}
-use Rattle.site_truth.proofs.NumberLemmas.{AreReleased, all_released}
+use Rattle.site_truth.proofs.ListLemmas.{slice_get-map, take-all}
+use Rattle.site_truth.proofs.NumberLemmas.{all_released}
 
 -- context number i of those that arrived, as it is released
 abbrev pub context_told : Delivery → List ℕ → ℕ → TimedContext

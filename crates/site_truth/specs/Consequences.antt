@@ -1,5 +1,5 @@
 -- What follows for whoever reads the outputs.
-use Rattle.std.specs.Prelude.{◌≡◌, ◌⊎◌, ℕ, ◌+◌, ◌-◌, ◌<◌, ◌≤◌, true, false, Bool, List, [], ◌∷◌, ◌++◌, slice_get, Some, IsOk, Result}
+use Rattle.std.specs.Prelude.{◌≡◌, ◌⊎◌, ℕ, ◌+◌, ◌-◌, ◌<◌, ◌≤◌, true, false, Bool, List, [], ◌∷◌, ◌++◌, slice_get, Some, IsOk}
 use Rattle.vrt_words.specs.Buffer.{Buffer}
 use Rattle.difi_context.specs.declared.context.ContextRec.{ContextRec}
 use Rattle.reorder_window.specs.Delivery.{occurs}

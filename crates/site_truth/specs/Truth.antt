@@ -1,13 +1,13 @@
 -- When the outputs of a stream are true of what its site sent.
 use Rattle.std.specs.Prelude.{◌≡◌, ◌⊎◌, ℕ, ◌+◌, ◌<◌, ◌≤◌, true, false, List, [], ◌∷◌, length, slice_get, slice_index, Some}
-use Rattle.vrt_time.specs.Time.{TimeStamp, moment_of}
+use Rattle.vrt_time.specs.Time.{TimeStamp}
 use Rattle.reorder_window.specs.Delivery.{occurs}
 use Rattle.sample_binder.specs.declared.out.Out.{Out}
 use Rattle.sample_binder.specs.declared.reason.Reason.{Reason}
 use Rattle.sample_binder.specs.declared.run.Run.{Run}
 use Rattle.sample_binder.specs.declared.run.Run.TheVariants.{Bound, Uncertain, Raw}
 use Rattle.sample_binder.specs.Parts.{Part, outs_of, samples_of}
-use Rattle.sample_binder.specs.Samples.{rate_in, size_in}
+use Rattle.sample_binder.specs.Samples.{size_in}
 use Rattle.site_truth.specs.Site.{IsInForce, fields_at, packet_stamp, packet_moment, packet_pad, DividesInto, sample_moment}
 use Rattle.site_truth.specs.Delivered.{Delivery, buffer_of, AreInOrder, absent_before}
 use Rattle.site_truth.specs.Cause.{Left, IsLeft, IsCause}

@@ -3,4 +3,7 @@
 
 mod laws;
 
-pub use crate::laws::outputs_are_true;
+pub use crate::laws::{
+    all_samples_are_bound, bound_contexts_are_known, each_sample_leaves_once,
+    first_arrivals_are_taken, outputs_are_true,
+};
