@@ -73,7 +73,7 @@ class Tuning(NamedTuple):
     def text(self):
         gain = Fraction(signed_half(self.gain) + signed_half(self.gain >> 16), 128)
         return (
-            f"RF {with_prefix(self.rf_reference, 'Hz')}, {with_prefix(self.sample_rate, 'samples/s')}, "
+            f"RF {hertz(self.rf_reference)}, sample rate {hertz(self.sample_rate)}, "
             f"gain {decimal(gain)} dB"
         )
 
@@ -101,7 +101,7 @@ def is_format(word):
     )
 
 
-def decimal(value, digits=6):
+def decimal(value, digits=9):
     """The number with at most so many decimals, without trailing zeros."""
     text = f"{round(Fraction(value) * 10**digits):d}"
     sign, text = ("-", text[1:]) if text.startswith("-") else ("", text)
@@ -110,10 +110,10 @@ def decimal(value, digits=6):
     return sign + whole + ("." + rest if rest else "")
 
 
-def with_prefix(units, name):
-    """A number in units of 2^-20 as so many, thousand or million of what the name says."""
+def hertz(units):
+    """A frequency in units of 2^-20 Hz as text in hertz, kilohertz or megahertz."""
     value = Fraction(units, HERTZ)
-    for prefix, factor in (("G", 10**9), ("M", 10**6), ("k", 10**3)):
-        if abs(value) >= factor and (prefix != "G" or abs(value) >= 10 * factor):
-            return f"{decimal(value / factor)} {prefix}{name}" if name == "Hz" else f"{decimal(value)} {name}"
-    return f"{decimal(value)} {name}"
+    for name, factor in (("MHz", 10**6), ("kHz", 10**3)):
+        if abs(value) >= factor:
+            return f"{decimal(value / factor)} {name}"
+    return f"{decimal(value)} Hz"
