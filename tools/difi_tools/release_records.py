@@ -242,8 +242,9 @@ def read_front(source, head):
 def pass_part(source, left, taker):
     """Hands the bytes of a record's part to the taker, where there is one, in pieces."""
     while left:
-        piece = source.read(min(left, PIECE))
-        demand(piece, "the input ends inside it")
+        size = min(left, PIECE)
+        piece = source.read(size)
+        demand(len(piece) == size, "the input ends inside it")
         if taker is not None:
             taker(piece)
         left -= len(piece)

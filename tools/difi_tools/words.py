@@ -2,6 +2,7 @@
 
 import argparse
 import os
+import re
 import sys
 import time
 
@@ -9,12 +10,14 @@ LONG_INPUT = 32 << 20
 BAR = 30
 
 
+NUMBER = re.compile(r"-?[0-9]+|0[xX][0-9a-fA-F]+")
+
+
 def number(text):
     """A number in decimal digits, or in hexadecimal ones behind 0x."""
-    try:
-        return int(text, 16) if text[:2].lower() == "0x" else int(text, 10)
-    except ValueError:
-        raise argparse.ArgumentTypeError(f"{text!r} is no number") from None
+    if not NUMBER.fullmatch(text):
+        raise argparse.ArgumentTypeError(f"{text!r} is no number")
+    return int(text, 16 if text[:2].lower() == "0x" else 10)
 
 
 def number_within(least, most):
