@@ -6,7 +6,9 @@ import sys
 from fractions import Fraction
 
 from .context_fields import HERTZ
-from .record_header import BOUNDED, HALF_WORDS, MOST_PENDING, NEUTRAL, Bound, Header, Refusal, demand_header, initial_of_context
+from .record_header import (
+    BOUNDED, HALF_WORDS, MOST_PENDING, NEUTRAL, Bound, Header, Refusal, demand_header, initial_of_context,
+)  # fmt: skip
 from .words import complain, finish, number
 
 NAME = "header"
@@ -55,7 +57,8 @@ def measure(name, text):
         raise argparse.ArgumentTypeError(f"{text}: {name} is in {' or '.join(wanted)}")
     units = value * 128 if name in HALF_WORDS else value * UNITS[unit] * HERTZ
     if units.denominator != 1:
-        raise argparse.ArgumentTypeError(f"{text} is no whole number of {'1/128 dB' if name in HALF_WORDS else '2^-20 Hz'}")
+        unit = "1/128 dB" if name in HALF_WORDS else "2^-20 Hz"
+        raise argparse.ArgumentTypeError(f"{text} is no whole number of {unit}")
     return int(units)
 
 
@@ -89,7 +92,7 @@ def parser():
     option("--form", number, 1, "1 (default) or 2: 2 has more routes, and up to four ports for each", choices=(1, 2))
     option("--class-id", number, 0x6A621E, "class identifier of the packets, below 2^24 (default 0x6A621E)")
     option("--time-code", time_code, 1, "what their seconds count: utc, gps or other, or 1 to 3 (default utc)")
-    option("--max-words", number, 400, "most words of a packet, 43 to 16376; a packet of more is too large (default 400)")
+    option("--max-words", number, 400, "most words of a packet, 43 to 16376; one of more is too large (default 400)")
     option("--data-window", number, 16, "how many data packets are held to be put in order, 0 to 4096 (default 16)")
     option("--context-window", number, 4, "the same for context packets, 0 to 4096 (default 4)")
     option("--kept", number, 16, "contexts kept of a stream, 2 to 4096 (default 16)")
@@ -100,9 +103,9 @@ def parser():
         f"data packets of a stream that may wait for a context, 1 to {MOST_PENDING[1]}, in form 2 to {MOST_PENDING[2]} "
         "(default 4096)",
     )
-    option("--identity", identity, b"", "of the controllee: none (default), a word, or a UUID", metavar="none|WORD|UUID")
-    option("--route", route, [], "where a stream goes; once for each stream", action="append", metavar="STREAM:PORT[,PORT..]")
-    option("--initial", initial, NEUTRAL, "file with a context packet whose fields are the initial ones", metavar="FILE")
+    option("--identity", identity, b"", "of the controllee: none (default), a word, or a UUID", "none|WORD|UUID")
+    option("--route", route, [], "where a stream goes; once for each stream", "STREAM:PORT[,PORT..]", action="append")
+    option("--initial", initial, NEUTRAL, "file with a context packet whose fields are the initial ones", "FILE")
     option(
         "--bound",
         bound,

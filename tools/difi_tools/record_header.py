@@ -106,9 +106,8 @@ def demand_bound(name, bound):
 
 
 def demand_routes(form, routes):
-    demand(
-        len(routes) <= MOST_ROUTES[form], f"--route: {len(routes)} routes, and form {form} has at most {MOST_ROUTES[form]}"
-    )
+    most = MOST_ROUTES[form]
+    demand(len(routes) <= most, f"--route: {len(routes)} routes, and form {form} has at most {most}")
     streams = [stream for stream, _ports in routes]
     for stream, ports in routes:
         name = f"--route {stream:#x}"
@@ -136,8 +135,8 @@ def demand_header(header):
     room = len(header.routes) * (header.data_window + 1 + header.pending) * 4 * header.max_words
     demand(
         room <= MOST_ROOM,
-        f"--route, --data-window, --pending, --max-words: {len(header.routes)} routes need {room} bytes for packets that "
-        f"wait, and there are at most {MOST_ROOM}",
+        f"--route, --data-window, --pending, --max-words: {len(header.routes)} routes need {room} bytes for "
+        f"packets that wait, and there are at most {MOST_ROOM}",
     )
     wrong = header.initial.broken_rule()
     demand(wrong is None, f"--initial: {wrong}")

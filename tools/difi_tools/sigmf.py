@@ -144,8 +144,8 @@ class Recording:
             raise CannotTell(f"SigMF tells a sample rate as a floating-point number, and {rate}/2^20 Hz is none")
         if self.rate not in (None, rate):
             raise CannotTell(
-                f"a SigMF recording has one sample rate, and stream {self.stream:08X} changes from {hertz(self.rate)} to "
-                f"{hertz(rate)} at {instant(record.moment, self.code)}: choose one of them by --rate"
+                f"a SigMF recording has one sample rate, and stream {self.stream:08X} changes from {hertz(self.rate)} "
+                f"to {hertz(rate)} at {instant(record.moment, self.code)}: choose one of them by --rate"
             )
         self.rate = rate
 

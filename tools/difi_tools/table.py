@@ -172,7 +172,6 @@ class Summary:
         rows.append(["end record", self.end_text()])
         return "\n".join(f"{name:<26}{number:>12}" for name, number in rows)
 
-
     def end_text(self):
         if self.end is None:
             return "missing"
@@ -187,7 +186,7 @@ def aligned(heads, rows):
         return at == 0 or heads[at] in ("because", "first capture", "last capture")
 
     def line(row):
-        cells = [cell.ljust(width) if is_text(at) else cell.rjust(width) for at, (cell, width) in enumerate(zip(row, widths))]
+        cells = [row[at].ljust(width) if is_text(at) else row[at].rjust(width) for at, width in enumerate(widths)]
         return "  ".join(cells).rstrip()
 
     return "\n".join(line(row) for row in [list(heads), *rows])

@@ -3,6 +3,7 @@
 import argparse
 import os
 import re
+import stat
 import sys
 import time
 
@@ -46,7 +47,7 @@ class Counted:
         """The bytes of a regular file from here on, or None."""
         try:
             status = os.fstat(self.source.fileno())
-            return status.st_size - self.source.tell() if os.path.isfile(f"/dev/fd/{self.source.fileno()}") else None
+            return status.st_size - self.source.tell() if stat.S_ISREG(status.st_mode) else None
         except (AttributeError, OSError, ValueError):
             return None
 

@@ -1,5 +1,7 @@
 """`tools/header`."""
 
+import contextlib
+import io
 import os
 import struct
 import subprocess
@@ -7,6 +9,8 @@ import tempfile
 import unittest
 
 from difi_tools.context_fields import ContextFields
+from difi_tools.header import header_of, parser
+from difi_tools.record_header import Refusal
 
 from .worked import BASE, HAS_PROGRAM, NEEDS_PROGRAM, PROGRAM, TOP, data_of, run
 
@@ -61,15 +65,21 @@ BOUNDS = (
 
 
 def header(*words):
-    done = run("header", words)
-    assert done.returncode == 0 and done.stderr == b"", done
-    return done.stdout
+    return header_of(parser().parse_args(words)).to_bytes()
 
 
 def refusal(*words):
-    done = run("header", words)
-    assert done.returncode == 2 and done.stdout == b"", done
-    return done.stderr.decode()
+    """The line that says what is wrong with the words."""
+    said = io.StringIO()
+    try:
+        with contextlib.redirect_stderr(said):
+            header(*words)
+    except Refusal as refused:
+        return str(refused)
+    except SystemExit as ended:
+        assert ended.code == 2
+        return said.getvalue()
+    raise AssertionError(f"{words} are not refused")
 
 
 def is_record(data):
@@ -201,6 +211,18 @@ class Initial(unittest.TestCase):
 
     def test_a_file_that_is_not_there(self):
         self.assertIn("--initial: /nowhere/x: No such file", refusal("--initial", "/nowhere/x"))
+
+
+class Script(unittest.TestCase):
+    def test_the_header_is_written_whole_or_not_at_all(self):
+        done = run("header", ["--route", "1:9"])
+        self.assertEqual((done.returncode, done.stderr, len(done.stdout)), (0, b"", 340))
+        done = run("header", ["--kept", "1"])
+        self.assertEqual((done.returncode, done.stdout), (2, b""))
+        self.assertEqual(done.stderr, b"header: --kept: 1 is not within 2 to 4096\n")
+        done = run("header", ["--route", "1"])
+        self.assertEqual((done.returncode, done.stdout), (2, b""))
+        self.assertIn(b"argument --route: '1' is not STREAM:PORT[,PORT..]", done.stderr)
 
 
 @unittest.skipUnless(HAS_PROGRAM, NEEDS_PROGRAM)
