@@ -17,6 +17,7 @@ class Axis:
 
     def __init__(self, first, last, code):
         self.code = code
+        self.dated = unix_seconds(last // SECOND, code) is not None
         self.step = step_for(last - first)
         self.base = base_for(first, self.step)
         self.ticks = range(-(-first // self.step) * self.step, last + 1, self.step)
@@ -25,20 +26,23 @@ class Axis:
         if self.step < SECOND:
             size, unit = next(unit for unit in reversed(UNITS) if self.step >= unit[0])
             return f"+{(tick - self.base) // size} {unit}"
-        if unix_seconds(tick // SECOND, self.code) is None:
-            return f"{tick // SECOND} s"
+        if not self.dated:
+            return seconds_text(tick // SECOND)
         date, _, time = instant(tick, self.code, 0).rstrip("Z").partition("T")
         return date if self.step >= DAY else time
 
     def title(self):
         """What the labels count, and from where."""
-        dated = unix_seconds(self.base // SECOND, self.code) is not None
-        name = "UTC" if dated else "time as the record counts it"
+        name = "UTC" if self.dated else "time as the record counts it"
         if self.step < SECOND:
             return f"{name}, from {shortened(instant(self.base, self.code))}"
-        if dated and self.step < DAY:
+        if self.dated and self.step < DAY:
             return f"{name}, from {instant(self.base, self.code, 0)[:10]}"
         return name
+
+
+def seconds_text(seconds):
+    return f"{seconds} s" if seconds < 10**12 else f"{seconds:.4g} s"
 
 
 def shortened(text):

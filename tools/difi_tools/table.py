@@ -1,6 +1,6 @@
 """The numbers of a replay: for each stream and port, and of all frames."""
 
-from collections import Counter
+from collections import Counter, defaultdict
 
 from .clock import instant
 from .context_fields import tuning_of
@@ -60,7 +60,7 @@ class Summary:
 
     def __init__(self, code="utc"):
         self.code = code
-        self.lines = {}
+        self.lines = defaultdict(Line)
         self.refused = Counter()
         self.last_refused = 0
         self.acknowledgements = 0
@@ -68,7 +68,7 @@ class Summary:
 
     def add(self, record):
         if isinstance(record, (Bound, Uncertain, Raw, Version)):
-            self.lines.setdefault((record.stream, record.port), Line()).add(record)
+            self.lines[record.stream, record.port].add(record)
         elif isinstance(record, Refused):
             self.refused[record.reason] += 1
             self.last_refused = max(self.last_refused, record.frame)

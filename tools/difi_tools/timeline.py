@@ -1,6 +1,8 @@
 """Stretches of time, row by row, kept in bounded memory: those of one look that are closer together than a
 point of the picture are one."""
 
+from collections import defaultdict
+
 from .context_fields import tuning_of
 from .release_records import Bound, Raw, Uncertain, capture_moment
 
@@ -55,7 +57,7 @@ def joined_losses(losses, gap):
 
 class Timeline:
     def __init__(self):
-        self.rows = {}
+        self.rows = defaultdict(Row)
         self.tunings = []
         self.reasons = set()
         self.has_losses = False
@@ -76,7 +78,7 @@ class Timeline:
     def add(self, record):
         if not isinstance(record, (Bound, Uncertain, Raw)):
             return
-        row = self.rows.setdefault((record.stream, record.port), Row())
+        row = self.rows[record.stream, record.port]
         start = record.stamp if isinstance(record, Raw) else record.moment
         self.end_waiting(row, start, record.lost)
         if record.lost:

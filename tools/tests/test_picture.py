@@ -110,8 +110,8 @@ class Ticks(unittest.TestCase):
 
     def test_moments_without_a_date_are_seconds(self):
         self.assertEqual(self.labels(START, START + 10**12, "other")[1], "time as the record counts it, from 1700000000 s")
-        labels, title = self.labels(2**127, 2**128 - 1)
-        self.assertTrue(labels and labels[0].endswith(" s") and title)
+        labels, title = self.labels(START, 2**128 - 1)
+        self.assertEqual((labels[0], title), ("3.781e+25 s", "time as the record counts it"))
 
     def test_there_are_few_ticks_and_one_at_least(self):
         for span in [1, 9, 10, 11, 999] + [7 * 10**k for k in range(1, 27)]:
