@@ -12,8 +12,8 @@ from .record_header import (
 from .words import complain, finish, number
 
 NAME = "header"
-ABOUT = """Writes the header of a record of received datagrams on standard output. Frames, or a capture for
-`difi capture`, come behind it. Numbers are decimal, or hexadecimal behind 0x.
+ABOUT = """Writes the header of a record of received datagrams on standard output. Frames come behind it.
+Numbers are decimal, or hexadecimal behind 0x.
 
 What is out of range gets a line that names the option, and the exit code 2; nothing is written then."""
 TIME_CODES = {"utc": 1, "gps": 2, "other": 3}

@@ -213,8 +213,8 @@ class Recording:
             {
                 "core:sample_start": self.samples.whole // 4,
                 "core:sample_count": 0,
-                "core:label": f"uncertain: {words}" if reason else words,
-                "core:comment": f"{stretch['samples']} samples and {stretch['packets']} raw packets are left out here",
+                "core:label": words,
+                "core:comment": f"left out here: {stretch['samples']} samples and {stretch['packets']} raw packets",
                 "difi:reason": reason,
                 "difi:detail": detail,
                 "difi:capture_picoseconds": str(stretch["start"]),

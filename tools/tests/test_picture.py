@@ -15,7 +15,7 @@ from difi_tools.timeline import MOST_KEPT, Timeline, joined
 
 from .worked import (
     ALL_KINDS, BASE, CONTEXT_LOST, FIRST_TWO, HAS_PROGRAM, NEEDS_PROGRAM, NEXT_TWO, NOTHING, OTHER_RATE, START, TOP, end,
-    one_sample, releases, run,
+    one_sample, releases, replayed, run,
 )  # fmt: skip
 
 SVG = "{http://www.w3.org/2000/svg}"
@@ -209,6 +209,11 @@ class Png(unittest.TestCase):
 
 @unittest.skipUnless(HAS_PROGRAM, NEEDS_PROGRAM)
 class Example(unittest.TestCase):
+    def test_examples_without_samples_are_drawn_too(self):
+        for name in ("two", "contexts"):
+            root, _ = svg_of(replayed(name))
+            self.assertIn("no samples and no packets were released", texts(root))
+
     def test_the_picture_in_the_docs_is_the_one_of_the_example(self):
         with tempfile.TemporaryDirectory() as folder:
             path = os.path.join(folder, "site.svg")

@@ -91,9 +91,9 @@ class Recordings(unittest.TestCase):
         self.assertEqual([segment["core:sample_start"] for segment in meta["captures"]], [0, 2])
         first, second = meta["annotations"]
         self.assertEqual((first["core:sample_start"], first["core:sample_count"]), (2, 0))
-        self.assertEqual((first["core:label"], first["difi:samples"]), ("uncertain: another rate or format", 2))
+        self.assertEqual((first["core:label"], first["difi:samples"]), ("another rate or format", 2))
         self.assertEqual(first["difi:capture_picoseconds"], "1700000001000000000000")
-        self.assertEqual((second["core:label"], second["difi:detail"]), ("uncertain: contexts lost", 1))
+        self.assertEqual((second["core:label"], second["difi:detail"]), ("contexts lost", 1))
         self.assertEqual((second["difi:raw_packets"], second["difi:raw_words"], second["difi:samples"]), (2, 2, 0))
 
     def test_other_streams_and_ports_are_left_out(self):
@@ -165,8 +165,14 @@ class Example(unittest.TestCase):
         self.assertEqual([segment["core:sample_start"] for segment in meta["captures"]], [0, 6, 8])
         self.assertEqual([segment["core:frequency"] for segment in meta["captures"]], [12 * 10**8, 13 * 10**8, 13 * 10**8])
         self.assertEqual(
-            [note["core:label"] for note in meta["annotations"]], ["uncertain: contexts lost", "uncertain: the stream ended"]
+            [note["core:label"] for note in meta["annotations"]], ["contexts lost", "the stream ended"]
         )
+
+    def test_examples_without_samples_have_no_recording(self):
+        for name in ("two", "contexts"):
+            meta, _, said = recorded(replayed(name), code=1)
+            self.assertIsNone(meta)
+            self.assertIn("no bound samples of stream 00000001 for port 9", said)
 
     def test_readers_of_sigmf_that_are_here_give_the_samples_of_the_record(self):
         done = run("compare_sigmf", [])

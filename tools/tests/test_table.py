@@ -4,8 +4,8 @@ import json
 import unittest
 
 from .worked import (
-    ALL_KINDS, CONTEXT_LOST, CONTEXT_LOST_PORT_7, FIRST_TWO, HAS_PROGRAM, MALFORMED, NEEDS_PROGRAM, NEXT_TWO, NOTHING,
-    OTHER_RATE, TOO_LARGE, end, one_sample, releases, replayed,
+    ALL_KINDS, CONFLICT, CONTEXT_LOST, CONTEXT_LOST_PORT_7, FIRST_TWO, HAS_PROGRAM, MALFORMED, NEEDS_PROGRAM, NEXT_TWO, NOTHING,
+    OTHER_RATE, TOO_LARGE, TOO_LATE, end, one_sample, releases, replayed,
 )  # fmt: skip
 
 KINDS_TEXT = """\
@@ -69,6 +69,11 @@ class Table(unittest.TestCase):
         data = one_sample(0, 0) + one_sample(16, 15) + one_sample(17, 0) + end(5, bound=3)
         (line,) = numbers(data)["streams"]
         self.assertEqual((line["packets"], line["packets_lost"]), (3, 15))
+
+    def test_refusals_are_counted_by_their_reason(self):
+        told = numbers(MALFORMED + TOO_LARGE + CONFLICT + TOO_LATE + MALFORMED + end(5, refused=5))
+        self.assertEqual(told["refused_frames"], {"too large": 1, "malformed": 2, "late": 1, "conflict": 1})
+        self.assertEqual(told["streams"], [])
 
     def test_no_frames(self):
         done = releases([], NOTHING)
