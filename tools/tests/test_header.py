@@ -107,7 +107,8 @@ class Bytes(unittest.TestCase):
         made = header("--form", "2", "--route", "7:5,6", "--route", "2:9")
         self.assertEqual(made[:8], b"DIFIREC2")
         self.assertEqual(made[36:40].hex(), "00000002")
-        self.assertEqual(made[332:].hex(), "00000002" "0001" "0009" "0000" "0000" "0000" "0000" "00000007" "0002" "0005" "0006" "0000" "0000" "0000")
+        routes = "00000002 0001 0009 0000 0000 0000 0000" "00000007 0002 0005 0006 0000 0000 0000"
+        self.assertEqual(made[332:], data_of(routes))
 
     def test_identities(self):
         self.assertEqual(header("--identity", "0x01020304")[40:60].hex(), "00000001" "01020304" + "00" * 12)

@@ -94,7 +94,8 @@ class Rules(unittest.TestCase):
         self.refuse(changed(FIRST_TWO, 4, "0000007C"))
 
     def test_port_and_lost(self):
-        for record, place in ((FIRST_TWO, 12), (OTHER_RATE, 12), (CONTEXT_LOST, 12), (ACKNOWLEDGEMENT, 8), (VERSION, 8)):
+        runs = ((FIRST_TWO, 12), (OTHER_RATE, 12), (CONTEXT_LOST, 12))
+        for record, place in (*runs, (ACKNOWLEDGEMENT, 8), (VERSION, 8)):
             self.accept(changed(record, place, "0000FFFF"))
             self.refuse(changed(record, place, "00010000"))
         self.accept(changed(MALFORMED, 16, "0000FFFF"))

@@ -106,7 +106,8 @@ class Refusals(unittest.TestCase):
         data = FIRST_TWO + one_sample(3, 0) + end(5, bound=3)
         meta, _, said = recorded(data, code=1)
         self.assertIsNone(meta)
-        self.assertIn("a SigMF recording has one sample rate, and stream 00000001 changes from 2 Hz to 350 kHz at 2023-", said)
+        self.assertIn("a SigMF recording has one sample rate", said)
+        self.assertIn("stream 00000001 changes from 2 Hz to 350 kHz at 2023-11-14T22:13:23.000000000000Z", said)
 
     def test_one_of_two_rates(self):
         data = FIRST_TWO + one_sample(3, 0) + bound(START + 10**12, 0, [(7, 8)], 2 * HERTZ) + end(5, bound=4)
@@ -163,7 +164,8 @@ class Example(unittest.TestCase):
         wanted = [(4 * n + k, -k) for n in (0, 1, 3) for k in range(4)]
         self.assertEqual(list(zip(numbers[::2], numbers[1::2])), wanted)
         self.assertEqual([segment["core:sample_start"] for segment in meta["captures"]], [0, 6, 8])
-        self.assertEqual([segment["core:frequency"] for segment in meta["captures"]], [12 * 10**8, 13 * 10**8, 13 * 10**8])
+        frequencies = [segment["core:frequency"] for segment in meta["captures"]]
+        self.assertEqual(frequencies, [1_200_000_000, 1_300_000_000, 1_300_000_000])
         self.assertEqual(
             [note["core:label"] for note in meta["annotations"]], ["contexts lost", "the stream ended"]
         )

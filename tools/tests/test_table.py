@@ -4,8 +4,8 @@ import json
 import unittest
 
 from .worked import (
-    ALL_KINDS, CONFLICT, CONTEXT_LOST, CONTEXT_LOST_PORT_7, FIRST_TWO, HAS_PROGRAM, MALFORMED, NEEDS_PROGRAM, NEXT_TWO, NOTHING,
-    OTHER_RATE, TOO_LARGE, TOO_LATE, end, one_sample, releases, replayed,
+    ALL_KINDS, CONFLICT, CONTEXT_LOST, CONTEXT_LOST_PORT_7, FIRST_TWO, HAS_PROGRAM, MALFORMED, NEEDS_PROGRAM,
+    NEXT_TWO, NOTHING, OTHER_RATE, TOO_LARGE, TOO_LATE, end, one_sample, releases, replayed,
 )  # fmt: skip
 
 KINDS_TEXT = """\
@@ -30,6 +30,10 @@ def numbers(data, code=0, words=()):
     return json.loads(done.stdout)
 
 
+def capture(time, picoseconds):
+    return {"time": time, "picoseconds": picoseconds}
+
+
 class Table(unittest.TestCase):
     def test_without_a_command_the_table_is_written(self):
         for words in ([], ["table"]):
@@ -49,8 +53,8 @@ class Table(unittest.TestCase):
                     "uncertain_samples": {"another rate or format": 2},
                     "raw_packets": {"contexts lost": 1},
                     "packets_lost": 0,
-                    "first_capture": {"time": "2023-11-14T22:13:20.000000000000Z", "picoseconds": "1700000000000000000000"},
-                    "last_capture": {"time": "2023-11-14T22:13:21.500000000000Z", "picoseconds": "1700000001500000000000"},
+                    "first_capture": capture("2023-11-14T22:13:20.000000000000Z", "1700000000000000000000"),
+                    "last_capture": capture("2023-11-14T22:13:21.500000000000Z", "1700000001500000000000"),
                     "changes_of_tuning": 0,
                     "versions": 1,
                 }
@@ -81,7 +85,8 @@ class Table(unittest.TestCase):
         self.assertTrue(done.stdout.startswith(b"no stream released anything\n"))
 
     def test_gps_time_and_time_of_another_start(self):
-        # GPS time began 315,964,800 s after 1970, and UTC is 18 s behind it: 2,015,964,782 s, which is 23,332 days and 79,982 s.
+        # GPS time began 315,964,800 s after 1970, and UTC is 18 s behind it: 2,015,964,782 s since 1970, which is
+        # 23,332 days and 79,982 s.
         (line,) = numbers(FIRST_TWO + end(1, bound=2), words=["--time", "gps"])["streams"]
         self.assertEqual(line["first_capture"]["time"], "2033-11-18T22:13:02.000000000000Z")
         (line,) = numbers(FIRST_TWO + end(1, bound=2), words=["--time", "other"])["streams"]
