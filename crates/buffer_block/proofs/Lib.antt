@@ -1,2 +1,3 @@
+mod Housing
 mod Rooms
 mod Vecs

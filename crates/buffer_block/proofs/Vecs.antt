@@ -20,6 +20,10 @@ use Rattle.std.specs.Allocator.{block_with_items}
 use Rattle.std_alloc.specs.Vec.Ownership.{owns_if, has_block}
 use Rattle.std_alloc.specs.contracts.vec.Vec as V
 use Rattle.std_alloc.proofs.VecSteps.Opens.{is_live}
+use Rattle.std_alloc.proofs.vec.Vec.TheLaws as vec_laws
+use Rattle.std.proofs.alloc.Global.TheLaws as heap_laws
+use Rattle.bytes.proofs.Lodging.{byte_laws}
+use denote.Param.Laws.{Laws}
 use Rattle.bytes.proofs.Walks.{plainly, one, one_made}
 use Rattle.buffer_block.specs.Ownership.{room_owns}
 use Rattle.buffer_block.specs.contracts.block.Sole as Sole
@@ -72,3 +76,6 @@ module _ {M : Type 1} {𝓤 : Ura M} (𝓛 : Logic 𝓤) where
       use2 𝓛 (‵ (Behind v.alloc here 0 v.cap [])) (apply∗ 𝓤 (sem 𝓛 (froom (Bytes v.cap) b o)) (sem 𝓛 (Behind v.alloc here 0 v.cap []))) $
       rewrite ! 0 (λ p. ‵ (Block p 0 [])) (sym at) refl $ rewrite ! 0 (λ xs. ‵ (Block v.ptr 0 xs)) (sym none) refl $ rewrite ! 0 (λ n. ‵ (Block v.ptr n v.items)) (sym empty) refl $
       flt_i ! (v.cap * 1) (2 ^ 63) fit $ fjoin ! $ move ! (1 ∷ 0 ∷ []) $ fjoin ! $ one_made ! V8 v u $ done !))
+
+abbrev pub v8_laws : Laws V8
+v8_laws = vec_laws.the_row_laws u8 heap.the_row ghosts byte_laws heap_laws.the_row_laws

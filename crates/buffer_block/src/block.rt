@@ -69,12 +69,11 @@ unsafe impl Sync for Block {}
 
 impl Block {
     // Lends the room of an empty `Vec`.
-    pub(crate) fn lend(vec: Vec<u8>, room: usize, number: usize) -> (Block, Places)
-        requires { (vec_len vec ≡ 0) × (vec_capacity vec ≡ number * room) }
-        ensures { (result.1.life ≡ result.0.life) × (result.1.room ≡ room)
-            × (result.1.left ≡ number) × (result.1.ptr ≡ vec_ptr vec) × InBlock (vec_ptr vec) }
+    pub(crate) fn lend(vec: Vec<u8>, _room: usize, _number: usize) -> (Block, Places)
+        requires { (vec_len vec ≡ 0) × (vec_capacity vec ≡ _number * _room) }
+        ensures { (result.1.life ≡ result.0.life) × (result.1.room ≡ _room)
+            × (result.1.left ≡ _number) × (result.1.ptr ≡ vec_ptr vec) × InBlock (vec_ptr vec) }
     {
-        let _size = (room, number);
         (Block { sole: Sole { vec } }, Places {})
     }
 
