@@ -1,3 +1,4 @@
+mod Arcs
 mod Housing
 mod Rooms
 mod Vecs
