@@ -1,12 +1,15 @@
 // An owner of a block whose place is out, and the `Vec` that lies in the place.
-ghost use Rattle.std.specs.Prelude.{◌≡◌, ℕ, []};
+ghost use Rattle.std.specs.Prelude.{◌≡◌, ℕ, ◌≤◌, take};
 ghost use Rattle.std.specs.Vec.{vec_capacity, vec_ptr};
+ghost use Rattle.std.specs.Mem.Slots.{slots_ptr, slots_len, slots_items, slots_filled};
+ghost use Rattle.std.specs.Mem.Slots.Ownership.{Filled};
 ghost use base.Fml.{ftrue};
 ghost use denote.RawPtr.{Ptr};
 ghost use Rattle.bytes.specs.Ownership.{Extent, extent_code};
 ghost use Rattle.buffer_block.specs.Ownership.{room_owns, tether_owns};
 
 use crate::block::{Block, Places};
+use core::slots::Slots;
 use std::marker::{Model, Move, Owns};
 use std::sync::Arc;
 use std_alloc::vec::{Lodged, lodge};
@@ -63,13 +66,23 @@ impl Tether {
     }
 }
 
-// An empty `Vec` over the room, which neither grows nor frees it.
-pub(crate) fn house(ptr: *mut u8, len: usize, room: Room) -> Vec<u8, Lodged>
+// The room as places, each empty.
+pub(crate) fn row(ptr: *mut u8, len: usize, room: Room) -> Slots<u8>
     requires { (room.ptr ≡ ptr) × (room.len ≡ len) }
-    ensures { (result.items ≡ []) × (vec_capacity result ≡ len) × (vec_ptr result ≡ ptr) }
+    ensures { (slots_ptr result ≡ ptr) × (slots_len result ≡ len) }
 {
     let Room {} = room;
-    unsafe { lodge(ptr, 0, len) }
+    unsafe { Slots::from_raw_parts(ptr, len) }
+}
+
+// A `Vec` of the first `len` places, which neither grows nor frees them.
+pub(crate) fn house(row: Slots<u8>, len: usize) -> Vec<u8, Lodged>
+    requires { (len ≤ slots_len row) × Filled (slots_filled row) 0 len }
+    ensures { (result.items ≡ take len (slots_items row)) × (vec_capacity result ≡ slots_len row)
+        × (vec_ptr result ≡ slots_ptr row) }
+{
+    let (ptr, cap) = unsafe { row.into_raw_parts() };
+    unsafe { lodge(ptr, len, cap) }
 }
 
 // Lets the bytes go.
