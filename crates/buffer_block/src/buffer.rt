@@ -1,11 +1,13 @@
-ghost use Rattle.std.specs.Prelude.{◌≡◌, ◌≤◌, [], length, replicate, IfOk};
-ghost use Rattle.std.specs.Vec.{vec_capacity};
+ghost use Rattle.std.specs.Prelude.{◌≡◌, ℕ, suc, ◌+◌, ◌*◌, ◌^◌, ◌<◌, ◌≤◌, [], length, take, replicate, IfOk};
+ghost use Rattle.std.specs.Vec.{vec_len, vec_capacity, vec_ptr};
+ghost use denote.RawPtr.{InBlock, ◌+ₚ◌};
 ghost use Rattle.buffer_block.specs.Buffers.{fresh};
 
 use crate::block::{Block, Places};
-use crate::tether::{Tether, house, vacate};
+use crate::tether::{Tether, house, row, vacate};
 use std::alloc::{AllocError, Global};
 use std::marker::Model;
+use std::mem;
 use std::sync::Arc;
 use std_alloc::vec::Lodged;
 
@@ -28,12 +30,72 @@ impl Model for BlockBuf {
 }
 
 impl BlockBuf {
+    /// As many buffers as `number`, each with room for `room` bytes and none there yet.
+    ///
+    /// They lie in one block, which goes with the last of them.
+    ///
+    /// # Errors
+    ///
+    /// Where there is no memory for them. Then none is left open.
+    pub fn open_many(
+        alloc: Global,
+        room: usize,
+        number: usize,
+    ) -> Result<Vec<BlockBuf>, AllocError>
+        ensures { IfOk result (λ bufs. bufs.items ≡ replicate number (fresh room)) }
+    {
+        let Some(size) = room.checked_mul(number) else {
+            return Err(AllocError);
+        };
+        let mut bufs = Vec::with_capacity(alloc, number)?;
+        let mut memory: Vec<u8> = Vec::with_capacity(alloc, size)?;
+        let mut ptr = memory.as_mut_ptr();
+        let (block, mut places) = Block::lend(memory, room, number);
+        let Ok(block) = Arc::new(alloc, block) else {
+            return Err(AllocError);
+        };
+        let mut i = 0;
+        while i < number {
+            let owner = Arc::try_clone(&block)?;
+            let (place, rest) = places.cut();
+            bufs.push_reserved(BlockBuf::over(owner, place, ptr, room));
+            ptr = unsafe { ptr.byte_add(room) };
+            places = rest;
+            i += 1;
+        }
+        Ok(bufs)
+    }
+
+    // An empty buffer over the place at `ptr`.
+    fn over(owner: Arc<Block>, place: Places, ptr: *mut u8, room: usize) -> BlockBuf
+        requires { (place.life ≡ owner.value.life) × (place.left ≡ 1) × (place.ptr ≡ ptr)
+            × (place.room ≡ room) }
+        ensures { result ≡ fresh room }
+    {
+        let (free, owner) = Tether::open(owner, place);
+        let bytes = house(row(ptr, room, free), 0);
+        BlockBuf { bytes, owner }
+    }
+
     /// The most bytes that it can hold.
     #[inline]
     pub fn room(&self) -> usize
         ensures { result ≡ self.now.room }
     {
         self.bytes.capacity()
+    }
+
+    /// Puts these bytes in the place of those there. It keeps its room.
+    pub fn fill(&mut self, bytes: &[u8])
+        requires { length bytes.now ≤ self.old.room }
+        ensures { self.new ≡ record self.old { bytes = bytes.now } }
+    {
+        let room = self.bytes.capacity();
+        let ptr = self.bytes.as_mut_ptr();
+        let held = mem::replace(&mut self.bytes, Vec::new(Lodged));
+        let mut places = row(ptr, room, vacate(held));
+        places.copy_in(0, bytes);
+        self.bytes = house(places, bytes.len());
     }
 
     /// The bytes there.
