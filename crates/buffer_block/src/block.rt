@@ -1,5 +1,5 @@
 // A block whose places are lent, and the places. What takes no memory here is ghost state.
-ghost use Rattle.std.specs.Prelude.{◌≡◌, ℕ, suc, ◌*◌, ◌^◌, ◌<◌, [], ◌∷◌};
+ghost use Rattle.std.specs.Prelude.{◌≡◌, ℕ, ◌+◌, ◌*◌, ◌^◌, ◌<◌, [], ◌∷◌};
 ghost use Rattle.std.specs.Vec.{vec_len, vec_capacity, vec_ptr};
 ghost use base.Fml.{ftrue, fex, fwand, flft};
 ghost use denote.RawPtr.{Ptr, InBlock, ◌+ₚ◌};
@@ -94,10 +94,10 @@ impl Drop for Block {
 impl Places {
     // The first place, and those after it.
     pub(crate) fn cut(self) -> (Places, Places)
-        requires { (n : ℕ) × (self.left ≡ suc n) }
+        requires { 0 < self.left }
         ensures { (result.0.life ≡ self.life) × (result.0.room ≡ self.room)
             × (result.0.left ≡ 1) × (result.0.ptr ≡ self.ptr) × (result.1.life ≡ self.life)
-            × (result.1.room ≡ self.room) × (suc result.1.left ≡ self.left)
+            × (result.1.room ≡ self.room) × (result.1.left + 1 ≡ self.left)
             × (result.1.ptr ≡ self.ptr +ₚ self.room) }
     {
         let Places {} = self;

@@ -1,6 +1,4 @@
-ghost use Rattle.std.specs.Prelude.{◌≡◌, ℕ, suc, ◌+◌, ◌*◌, ◌^◌, ◌<◌, ◌≤◌, [], length, take, replicate, IfOk};
-ghost use Rattle.std.specs.Vec.{vec_len, vec_capacity, vec_ptr};
-ghost use denote.RawPtr.{InBlock, ◌+ₚ◌};
+ghost use Rattle.std.specs.Prelude.{◌≡◌, ◌≤◌, length, replicate, IfOk};
 ghost use Rattle.buffer_block.specs.Buffers.{fresh};
 
 use crate::block::{Block, Places};

@@ -1,5 +1,5 @@
 -- `cut` takes one loan from the others. Assumes `Logic`.
-use Rattle.std.proofs.Common.{◌≡◌, ℕ, zero, suc, ◌+◌, ◌*◌, ◌^◌, ◌<◌, ◌≤◌, List, [], ◌∷◌, ◌++◌, length, refl, sym, ap, ◌∙◌, subst, arith}
+use Rattle.std.proofs.Common.{◌≡◌, suc, ◌+◌, ◌-◌, ◌<◌, List, [], ◌∷◌, ◌++◌, refl, arith}
 use seplogic.Ra.Ura.{Ura}
 use mir.Syntax.{Fn, w64}
 use mir.Val.{Val, vint}
@@ -63,13 +63,14 @@ module _ {M : Type 1} {𝓤 : Ura M} (𝓛 : Logic 𝓤) (at_mem : Memory → SP
         let vss = z.0.4 in
         let s = a.0 in
         let front : (Places.the_row).Denot = record s { left = 1 } in
-        let Asked = (n : ℕ) × (s.left ≡ suc n) in
+        let Asked = 0 < s.left in
         qed 𝓛 ((raw toks ⊛ ‵ (owns (types_at ended.signature.params z.0.0) a vss)) ∷ raw (fact 𝓤 Asked) ∷ []) ∵
         move ! (1 ∷ []) $ heard ! Asked (λ asked. split ! $ move ! (1 ∷ []) $
-        let n = asked.0 in
+        let n = s.left - 1 in
+        let more : s.left ≡ suc n = omega arith in
         let back : (Places.the_row).Denot = record s { left = n; ptr = s.ptr +ₚ s.room } in
         fsplit ! $ fsplit ! $ none_had ! vss.0 (λ is. move ! (1 ∷ []) $ drop ! $
-        rewrite ! 0 (λ k. ‵ (borrowed s.life s.room k s.ptr)) asked.1 refl $ fsplit ! $
+        rewrite ! 0 (λ k. ‵ (borrowed s.life s.room k s.ptr)) more refl $ fsplit ! $
         regoal ! (λ (us : List Val). prop (WpFn 𝓤 H C Λ function (us ++ []) Post)) is refl $
         enter ! C Λ function (none ∷ []) Post $ alloc_all ! (λ l. pass_all ! refl ((tt, tt), tt) $
         sets ! (agg ! (no_more !)) refl (tt, tt) $
@@ -79,7 +80,7 @@ module _ {M : Type 1} {𝓤 : Ura M} (𝓛 : Logic 𝓤) (at_mem : Memory → SP
         move ! (1 ∷ []) $ none_made ! $ fjoin ! $ move ! (1 ∷ []) $ nothing ! $ move ! (1 ∷ 0 ∷ []) $ fjoin ! $ none_made ! $ fjoin ! $ move ! (0 ∷ 1 ∷ []) $
         two_made ! Places.the_row Places.the_row front back none none $
         returns ! (look_at ! 0 refl) $ free_all ! refl $
-        suffices ! _ (ends_at 𝓛 ended stayed held z (two none none) (front, back) (tt, tt) (tt, tt)) $ says ! (refl, refl, refl, refl, refl, refl, sym asked.1, refl) $
+        suffices ! _ (ends_at 𝓛 ended stayed held z (two none none) (front, back) (tt, tt) (tt, tt)) $ says ! (refl, refl, refl, refl, refl, refl, (let same : n + 1 ≡ s.left = omega arith in same), refl) $
         nothing ! $ nothing ! $ fjoin ! $ move ! (2 ∷ 0 ∷ 1 ∷ []) $ done !)))
 
   meets : (𝓣 : Tables 𝓤 H) → Meets 𝓛 ended.signature (WpFn 𝓤 H 𝓣.C 𝓣.Λ function) (closing 𝓛 ended held)
