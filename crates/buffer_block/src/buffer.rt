@@ -35,11 +35,7 @@ impl BlockBuf {
     /// # Errors
     ///
     /// Where there is no memory for them. Then none is left open.
-    pub fn open_many(
-        alloc: Global,
-        room: usize,
-        number: usize,
-    ) -> Result<Vec<BlockBuf>, AllocError>
+    pub fn open_many(alloc: Global, room: usize, number: usize) -> Result<Vec<BlockBuf>, AllocError>
         ensures { IfOk result (λ bufs. bufs.items ≡ replicate number (fresh room)) }
     {
         let Some(size) = room.checked_mul(number) else {
@@ -88,7 +84,7 @@ impl BlockBuf {
         requires { length bytes.now ≤ self.old.room }
         ensures { self.new ≡ record self.old { bytes = bytes.now } }
     {
-        let room = self.bytes.capacity();
+        let room = self.room();
         let ptr = self.bytes.as_mut_ptr();
         let held = mem::replace(&mut self.bytes, Vec::new(Lodged));
         let mut places = row(ptr, room, vacate(held));

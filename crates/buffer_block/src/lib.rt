@@ -6,8 +6,8 @@
 
 mod block;
 mod buffer;
-mod tether;
 #[cfg(test)]
 mod tests;
+mod tether;
 
 pub use crate::buffer::BlockBuf;
