@@ -86,13 +86,11 @@ fn the_block_lasts_until_the_last_buffer(rt: HostRuntime) -> Result<(), Fail> {
     for buf in bufs.iter_mut() {
         assert!(rt; put(buf, b"one last"));
     }
-    while let Some(buf) = bufs.pop() {
-        let held = buf;
-        if bufs.len() == 1 {
-            bufs.clear();
-        }
-        assert_eq!(rt; held.bytes(), b"one last".as_slice());
-    }
+    let Some(last) = bufs.pop() else {
+        return Err(Fail::from("no buffer"));
+    };
+    drop(bufs);
+    assert_eq!(rt; last.bytes(), b"one last".as_slice());
     Ok(())
 }
 
