@@ -4,7 +4,7 @@ use seplogic.Ra.Ura.{Ura}
 use mir.Val.{Val}
 use base.Fraction.{full_share}
 use base.Logic.{SProp, ent, sep, ex}
-use base.Fml.{Fml, Incl-refl, Share, fsep, fwand, flft, fshr_bor}
+use base.Fml.{Fml, Incl-refl, Share, fwand, flft, fshr_bor}
 use types.Logic.{Logic, sem}
 use types.Kit.{‵, ◌⊛◌, later, ◌$◌, ◌∵◌, !, qed, move, drop, frame, assume, show, use0, use1, use2, split, fsplit, fsplit3, fjoin, fjoin3, fpick, fpack, await, updating, now, done}
 use types.RcWeak.{part, part_in}

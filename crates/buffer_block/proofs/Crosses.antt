@@ -12,7 +12,7 @@ use Rattle.std.proofs.Crossing.{frees}
 use Rattle.std_alloc.proofs.SendSync.{Arc-send, Vec-send}
 use Rattle.bytes.proofs.Crosses.{u8-send}
 use denote.Builtin.{u8}
-use Rattle.buffer_block.specs.Ownership.{room_owns, lent, block_owns}
+use Rattle.buffer_block.specs.Ownership.{room_owns, lent}
 use Rattle.buffer_block.specs.contracts.block.Sole as Sole
 use Rattle.buffer_block.specs.contracts.block.Sole.TheInside as vec_inside
 use Rattle.buffer_block.specs.contracts.block.Block as Block

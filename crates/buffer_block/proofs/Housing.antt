@@ -11,14 +11,12 @@ use prog.Routine.{Routine}
 use contract.Monad.{Fun, fact, fact_i}
 use contract.BorrowLft.{◌⊑◌, ⊑_refl}
 use types.Logic.{Logic, sem}
-use types.Kit.{‵, raw, ◌⊛◌, some, later, ◌$◌, ◌∵◌, !, qed, by, move, keep, use0, use1, use2, drop, split, split3, join, pick, fsplit, fsplit3, fjoin, fjoin3, feq_l, feq_i, flt_l, flt_i, rewrite, check, show, await, updating, now, done}
+use types.Kit.{‵, raw, ◌⊛◌, some, later, ◌$◌, ◌∵◌, !, qed, by, move, keep, use0, use1, use2, drop, split, split3, join, pick, fsplit, fsplit3, fjoin, feq_l, feq_i, flt_l, flt_i, rewrite, check, show, await, updating, now, done}
 use denote.Exit.{no, left}
 use denote.Builtin.{u8, usize}
-use denote.Array.{Array}
 use denote.Param.{param}
-use denote.RawPtr.{Ptr, block_ptr, lies_at, in_block, in_a_block}
+use denote.RawPtr.{Ptr, block_ptr, in_block, in_a_block}
 use denote.Steps.{only, nothing, heard}
-use denote.Triple.Statement.{Contract}
 use Rattle.std.specs.Allocator.{block_with_items}
 use Rattle.std_alloc.specs.Vec.Ownership.{lodged, owns_if, has_block}
 use Rattle.std_alloc.specs.declared.vec.lodged.Lodged.{Lodged}

@@ -1,11 +1,11 @@
 -- Room is lent in places of one size, and is one room again when the loan has ended. Assumes `Logic`.
-use Rattle.std.proofs.Common.{◌≡◌, ℕ, zero, suc, ◌+◌, ◌-◌, ◌*◌, ◌^◌, ◌<◌, ◌≤◌, List, [], ◌∷◌, refl, sym, subst, arith}
+use Rattle.std.proofs.Common.{◌≡◌, ℕ, zero, suc, ◌+◌, ◌-◌, ◌*◌, ◌^◌, ◌<◌, [], ◌∷◌, refl, sym, subst, arith}
 use seplogic.Ra.Ura.{Ura}
 use mir.Syntax.{Ty, w8, ty_int, ty_array}
-use base.Logic.{SProp, ent, sep, guard, emp, never_e}
-use base.Fml.{Fml, fsep, flt, froom, fdead, flent, fbor}
+use base.Logic.{SProp, ent, sep, guard, never_e}
+use base.Fml.{Fml, fsep, froom, fdead}
 use types.Logic.{Logic, sem}
-use types.Kit.{‵, ◌⊛◌, later, ◌$◌, ◌∵◌, !, qed, by, move, keep, drop, use0, use1, use2, split, fsplit, fjoin, flt_l, flt_i, rewrite, check, await, updating, now, done}
+use types.Kit.{‵, ◌⊛◌, later, ◌$◌, ◌∵◌, !, qed, by, move, drop, use0, use1, use2, split, fsplit, fjoin, flt_l, flt_i, rewrite, check, await, updating, now, done}
 use types.Tokens.{bor_new, lent_back}
 use denote.RawPtr.{Ptr, block_ptr, null_ptr, InBlock}
 use denote.Steps.{nothing}

@@ -1,17 +1,15 @@
 -- The room of an empty `Vec` of bytes is taken out, with the way back. Assumes `Logic`.
-use Rattle.std.proofs.Common.{◌≡◌, ℕ, zero, suc, ◌+◌, ◌-◌, ◌*◌, ◌^◌, ◌<◌, Bool, true, List, [], ◌∷◌, length, refl, sym, ap, ◌∙◌, arith, Vec}
+use Rattle.std.proofs.Common.{◌≡◌, ℕ, zero, suc, ◌+◌, ◌-◌, ◌*◌, ◌^◌, true, List, [], ◌∷◌, length, refl, sym, ◌∙◌, arith, Vec}
 use seplogic.Ra.Ura.{Ura}
-use mir.Syntax.{Ty, w8, ty_int}
+use mir.Syntax.{w8, ty_int}
 use mir.Val.{Val}
-use base.Fraction.{full_share}
-use base.Logic.{ent, sep, wand, never, id⊢, emp, apply∗}
-use base.Fml.{Fml, fsep, fwand, flt, froom, ftrue}
+use base.Logic.{ent, sep, never, id⊢, apply∗}
+use base.Fml.{Fml, fwand, froom}
 use types.Logic.{Logic, sem}
-use types.Kit.{‵, ◌⊛◌, ◌$◌, ◌∵◌, !, qed, move, drop, keep, frame, assume, show, use0, use1, use2, split, fsplit, fsplit3, fjoin, fjoin3, flt_l, flt_i, rewrite, done}
+use types.Kit.{‵, ◌⊛◌, ◌$◌, ◌∵◌, !, qed, move, drop, frame, assume, show, use0, use1, use2, split, fsplit, fsplit3, fjoin, fjoin3, flt_l, flt_i, rewrite, done}
 use denote.RattleType.{RattleType}
 use denote.Builtin.{u8}
-use denote.Array.{Array}
-use denote.RawPtr.{Ptr, block_ptr, lies_at, in_block, in_a_block, block_of, count_of}
+use denote.RawPtr.{Ptr, block_ptr, in_block, in_a_block}
 use denote.Steps.{nothing}
 use Rattle.std.specs.declared.alloc.Global.{Global}
 use Rattle.std.specs.contracts.alloc.Global as heap

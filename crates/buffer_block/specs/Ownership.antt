@@ -1,9 +1,9 @@
 -- What the parts of a block own that is lent in places of one size. The places are borrowed for a lifetime `a`, each by itself.
-use Rattle.std.specs.Prelude.{ℕ, zero, suc, ◌+◌, ◌^◌, [], ◌∷◌}
+use Rattle.std.specs.Prelude.{ℕ, zero, suc, ◌^◌, [], ◌∷◌}
 use base.Fraction.{full_share}
 use base.Fml.{Share, Fml, ftrue, fsep, fex, fwand, flt, flft, fbor, fobor, flent}
 use mir.Syntax.{w8, ty_int, ty_array}
-use denote.RawPtr.{Ptr, room_for, block_of, count_of, ◌+ₚ◌}
+use denote.RawPtr.{Ptr, room_for, ◌+ₚ◌}
 use Rattle.bytes.specs.Ownership.{Extent}
 
 -- room for n bytes at p

@@ -2,8 +2,8 @@
 use Rattle.std.proofs.Common.{◌≡◌, ℕ, ◌*◌, ◌^◌, ◌<◌, ◌≤◌, List, [], ◌∷◌, ◌++◌, length, take, Bool, refl, sym, ap, ◌∙◌, subst, arith, Vec}
 use seplogic.Ra.Ura.{Ura}
 use mir.Syntax.{Fn, Callee, a_type, w64, copy, return, assign, seq, place, rv_opd}
-use mir.Val.{Val, vint, vptr, WT}
-use base.Logic.{SProp, ent, id⊢}
+use mir.Val.{Val, vint, WT}
+use base.Logic.{SProp, ent}
 use base.Fraction.{full_share}
 use base.Fml.{flft, fat}
 use prog.Memory.{Memory}
@@ -12,8 +12,8 @@ use prog.Wp.{Calls, Loops, WpFn, Tables}
 use contract.Monad.{Fun, fact}
 use contract.Running.{tables, tables_of}
 use sound.WpLaws.{WpFn-mono, fm_of, FmC}
-use types.Logic.{Logic, sem}
-use types.Kit.{‵, raw, ◌⊛◌, some, given, later, prop, at_ret, ◌$◌, ◌∵◌, !, qed, move, drop, use0, use1, use2, split, fsplit, fjoin, pick, learn, feq_l, flt_l, flt_i, regoal, rewrite, suffices, await, done}
+use types.Logic.{Logic}
+use types.Kit.{‵, raw, ◌⊛◌, some, given, later, prop, at_ret, ◌$◌, ◌∵◌, !, qed, move, drop, use0, use1, use2, split, fsplit, fjoin, pick, learn, feq_l, flt_l, regoal, rewrite, suffices, await, done}
 use types.Part.{sub, whole}
 use types.Run.{enter, returns, of_opd, and_then, no_more, fld, stop, first, blocks, exec}
 use types.ByLocal.{alloc_all, pass_all, free_all, look_at, take_at, give_at, get, get_in, sets, lands_last, env}
@@ -37,7 +37,7 @@ use denote.Param.{layout, layouts}
 use denote.Triple.Call.{calls_at_last}
 use denote.Triple.Statement.{Triple}
 use lib.Seq.{length-take-le}
-use Rattle.std.specs.Mem.Slots.{slots_ptr, slots_len, slots_items, slots_filled, slots_counts}
+use Rattle.std.specs.Mem.Slots.{slots_len, slots_items, slots_filled, slots_counts}
 use Rattle.std.specs.Mem.Slots.Ownership.{Filled}
 use Rattle.core.proofs.slots.Opens.{row_val, row_had, row_made}
 use Rattle.core.proofs.slots.Slots.into_raw_parts.Met as opened
@@ -46,7 +46,7 @@ use Rattle.std_alloc.specs.declared.vec.lodged.Lodged.{Lodged}
 use Rattle.std_alloc.specs.contracts.vec.lodge.Key.{name as callee_name}
 use Rattle.std_alloc.proofs.vec.lodge.Met as callee
 use Rattle.std_alloc.proofs.vec.Blocks.{el, all}
-use Rattle.std_alloc.proofs.vec.Spares.{Row, Into, into_key, at_into, Into-goes, Into-gives, parts_typed}
+use Rattle.std_alloc.proofs.vec.Spares.{Into, into_key, at_into, Into-goes, Into-gives, parts_typed}
 use Rattle.bytes.proofs.Lodging.{byte_laws, Housed, housed-laws, Lodges}
 use Rattle.buffer_block.proofs.Housing.{Behind, IsHoused, at_lodge, lodge_goes, lodge_gives, housed}
 use Rattle.buffer_block.proofs.Rooms.{E8}

@@ -5,7 +5,7 @@ use mir.Syntax.{Fn, Callee, w64, copy, return, assign, seq, place, rv_opd}
 use mir.Val.{Val, vint, vptr}
 use base.Logic.{SProp, ent}
 use base.Fraction.{full_share}
-use base.Fml.{flft, froom}
+use base.Fml.{flft}
 use prog.Memory.{Memory}
 use prog.Routine.{Routine}
 use prog.Wp.{Calls, Loops, WpFn, Tables}
@@ -14,7 +14,6 @@ use contract.Running.{tables, tables_of}
 use sound.WpLaws.{WpFn-mono, fm_of, FmC}
 use types.Logic.{Logic}
 use types.Kit.{‵, raw, ◌⊛◌, some, given, later, prop, at_ret, ◌$◌, ◌∵◌, !, qed, move, drop, use0, use1, use2, split, fsplit, fjoin, pick, learn, feq_l, flt_l, regoal, rewrite, suffices, await, done}
-use types.Part.{agg}
 use types.Run.{enter, returns, of_opd, and_then, no_more, first, blocks, exec}
 use types.ByLocal.{alloc_all, pass_all, free_all, look_at, get, sets, lands_last, env}
 use denote.Exit.{yes}
@@ -30,7 +29,7 @@ use Rattle.std.proofs.alloc.Calls.{Goes-blank}
 use Rattle.bytes.proofs.Walks.{none, none_had}
 use contract.BorrowLft.{⊑_refl}
 use denote.Builtin.{u8, usize, RawPtr}
-use denote.RawPtr.{Ptr, block_ptr, ptr_val, block_of, count_of}
+use denote.RawPtr.{ptr_val, block_of, count_of}
 use denote.Triple.Call.{calls_at_last}
 use denote.Triple.Statement.{Triple}
 use lib.ListN.{length-replicate}
@@ -43,7 +42,7 @@ use Rattle.bytes.specs.Ownership.{IsPlaced}
 use Rattle.bytes.proofs.Lodging.{byte_laws}
 use Rattle.buffer_block.specs.Ownership.{room_owns}
 use Rattle.buffer_block.specs.contracts.tether.Room as Room
-use Rattle.buffer_block.proofs.Rooms.{E8, Bytes, room_tells}
+use Rattle.buffer_block.proofs.Rooms.{E8, room_tells}
 use Rattle.buffer_block.specs.contracts.tether.row as F
 use Rattle.buffer_block.specs.contracts.tether.row.Key.{name as #self}
 use Rattle.buffer_block.proofs.tether.row.Statement as stated

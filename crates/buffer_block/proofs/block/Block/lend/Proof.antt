@@ -1,9 +1,9 @@
 -- `lend` starts the lifetime, and lends each place for it. Assumes `Logic`.
-use Rattle.std.proofs.Common.{◌≡◌, ℕ, zero, suc, ◌+◌, ◌*◌, ◌^◌, ◌<◌, ◌≤◌, List, [], ◌∷◌, ◌++◌, length, refl, sym, ap, ◌∙◌, subst, arith}
+use Rattle.std.proofs.Common.{◌≡◌, ◌*◌, ◌^◌, ◌<◌, List, [], ◌∷◌, ◌++◌, refl, sym, subst}
 use seplogic.Ra.Ura.{Ura}
 use mir.Syntax.{Fn, w64}
 use mir.Val.{Val, vint}
-use base.Logic.{SProp, ent, emp}
+use base.Logic.{SProp, ent}
 use base.Fml.{ftrue}
 use prog.Memory.{Memory}
 use prog.Routine.{Routine}
@@ -11,30 +11,30 @@ use prog.Wp.{Calls, Loops, WpFn, Tables}
 use contract.Monad.{Fun, fact}
 use contract.Running.{tables, tables_of}
 use sound.WpLaws.{WpFn-mono}
-use types.Logic.{Logic, sem}
-use types.Kit.{‵, raw, ◌⊛◌, some, given, later, prop, ◌$◌, ◌∵◌, !, qed, move, drop, keep, use0, use1, use2, split, split3, join, fsplit, fsplit3, fjoin, fjoin3, fpick, fpack, pick, learn, feq_l, flt_l, regoal, rewrite, suffices, await, done}
-use types.Part.{agg, sub, whole}
-use types.Run.{enter, returns, of_opd, and_then, no_more, fld, stop}
-use types.ByLocal.{alloc_all, pass_all, free_all, look_at, get, get_in, sets}
-use denote.Exit.{yes, no}
-use denote.RattleType.{RattleType, owns}
+use types.Logic.{Logic}
+use types.Kit.{‵, raw, ◌⊛◌, given, later, prop, ◌$◌, ◌∵◌, !, qed, move, drop, use1, split, fsplit, fjoin, fpack, learn, feq_l, flt_l, regoal, rewrite, suffices, await, done}
+use types.Part.{agg}
+use types.Run.{enter, returns, of_opd, and_then, no_more}
+use types.ByLocal.{alloc_all, pass_all, free_all, look_at, get, sets}
+use denote.Exit.{yes}
+use denote.RattleType.{owns}
 use denote.Signature.{plain, types_at}
-use denote.Steps.{nothing, heard, only}
+use denote.Steps.{nothing, heard}
 use denote.Triple.Clauses.{Clauses, Ended, closing}
 use denote.Triple.Entry.{alive}
 use denote.Triple.Spec.{Meets, triple_of}
 use denote.Triple.Table.{entered}
 use denote.Triple.Walked.{says, Stays, stay_dropped, walk_of, ends_at, walk_Meets}
 use Rattle.std.proofs.alloc.Calls.{Goes-blank}
-use Rattle.bytes.proofs.Walks.{none, one, two, tells, none_made, one_made, two_made, one_had, none_had}
+use Rattle.bytes.proofs.Walks.{none, one, two, tells, none_made, one_made, two_made}
 use types.Tokens.{lft_new}
 use denote.Builtin.{usize}
 use denote.Param.{layout}
 use denote.Laws.{Typed}
-use denote.RawPtr.{block_ptr, InBlock}
+use denote.RawPtr.{InBlock}
 use denote.Struct.Struct.{as_fields}
 use Rattle.bytes.specs.Ownership.{Extent, IsPlaced}
-use Rattle.buffer_block.specs.Ownership.{borrowed, room_owns}
+use Rattle.buffer_block.specs.Ownership.{room_owns}
 use Rattle.buffer_block.specs.contracts.block.Sole as Sole
 use Rattle.buffer_block.specs.contracts.block.Block as Block
 use Rattle.buffer_block.specs.contracts.block.Places as Places

@@ -1,35 +1,34 @@
 -- `regain` ends the lifetime, and puts the room back. Assumes `Logic`.
-use Rattle.std.proofs.Common.{◌≡◌, ℕ, zero, suc, ◌+◌, ◌*◌, ◌^◌, ◌<◌, ◌≤◌, List, [], ◌∷◌, ◌++◌, length, refl, sym, ap, ◌∙◌, subst, arith}
+use Rattle.std.proofs.Common.{◌*◌, ◌^◌, ◌<◌, List, [], ◌∷◌, ◌++◌, refl, sym, ap, subst}
 use seplogic.Ra.Ura.{Ura}
-use mir.Syntax.{Fn, w64}
-use mir.Val.{Val, vint}
+use mir.Syntax.{Fn}
+use mir.Val.{Val}
 use base.Logic.{SProp, ent, emp, apply∗, id⊢}
 use base.Fml.{fat}
 use base.Fraction.{full_share}
 use prog.Memory.{Memory}
 use prog.Routine.{Routine}
 use prog.Wp.{Calls, Loops, WpFn, Tables}
-use contract.Monad.{Fun, fact}
+use contract.Monad.{Fun}
 use contract.Running.{tables, tables_of}
 use sound.WpLaws.{WpFn-mono}
 use types.Logic.{Logic, sem}
-use types.Kit.{‵, raw, ◌⊛◌, some, given, later, prop, ◌$◌, ◌∵◌, !, qed, move, drop, keep, use0, use1, use2, split, split3, join, fsplit, fsplit3, fjoin, fjoin3, fpick, fpack, pick, learn, feq_l, flt_l, regoal, rewrite, suffices, await, done}
-use types.Part.{agg, sub, whole}
-use types.Run.{enter, returns, of_opd, and_then, no_more, fld, stop}
+use types.Kit.{‵, raw, ◌⊛◌, later, prop, ◌$◌, ◌∵◌, !, qed, move, drop, use0, use2, split, join, fsplit, fjoin, fpick, regoal, rewrite, suffices, await, done}
+use types.Part.{sub, whole}
+use types.Run.{enter, returns, of_opd, fld, stop}
 use types.ByLocal.{alloc_all, pass_all, free_all, look_at, take_at, give_at, get, get_in, sets}
-use denote.Exit.{yes, no}
-use denote.RattleType.{RattleType, owns}
+use denote.Exit.{yes}
+use denote.RattleType.{owns}
 use denote.Signature.{plain, types_at}
-use denote.Steps.{nothing, heard, only}
+use denote.Steps.{nothing, only}
 use denote.Triple.Clauses.{Clauses, Ended, closing}
 use denote.Triple.Entry.{alive}
 use denote.Triple.Spec.{Meets, triple_of}
 use denote.Triple.Table.{entered}
-use denote.Triple.Walked.{says, Stays, stay_dropped, walk_of, ends_at, walk_Meets}
+use denote.Triple.Walked.{Stays, stay_dropped, walk_of, ends_at, walk_Meets}
 use Rattle.std.proofs.alloc.Calls.{Goes-blank}
-use Rattle.bytes.proofs.Walks.{Good, none, one, two, tells, none_made, one_made, two_made, one_had, none_had}
+use Rattle.bytes.proofs.Walks.{Good, one, one_had}
 use types.Tokens.{lft_end}
-use denote.Laws.{Typed}
 use denote.Param.{layout}
 use denote.Struct.Struct.{as_fields}
 use Rattle.buffer_block.specs.Ownership.{room_owns}
