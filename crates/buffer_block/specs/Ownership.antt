@@ -26,7 +26,7 @@ module _ (a room : ℕ) where
   block_owns n p = fsep (flft (a ∷ []) full_share) (lent n p)
 
 module _ (e : Extent) (X : Type 0) (life : X → ℕ) (own : X → Fml) where
-  -- s is the owner's lifetime and its share of that token, which keeps out a share of the block's token, which keeps out the place
+  -- s.0 is a lifetime for which the owner is lent, s.1 the share of its token that is out for a share s.2 of the block's token, and that one is out for the place
   abbrev pub tethered : X → ℕ × Share × Share → Fml
   tethered x s = fsep (fwand (flft (s.0 ∷ []) s.1) (own x)) (fsep (fobor (s.0 ∷ []) s.1 (flft (life x ∷ []) s.2)) (fobor (life x ∷ []) s.2 (room_owns e.ptr e.len)))
 

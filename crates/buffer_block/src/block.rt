@@ -1,4 +1,4 @@
-// A block whose places are lent, and the places. What takes no memory here is ghost state.
+// A block that is lent place by place, and the loans of its places, which are ghost state alone.
 ghost use Rattle.std.specs.Prelude.{◌≡◌, ℕ, ◌+◌, ◌*◌, ◌^◌, ◌<◌, [], ◌∷◌};
 ghost use Rattle.std.specs.Vec.{vec_len, vec_capacity, vec_ptr};
 ghost use base.Fml.{ftrue, fex, fwand, flft};
@@ -9,7 +9,7 @@ ghost use Rattle.buffer_block.specs.Ownership.{room_owns, borrowed, block_owns};
 
 use std::marker::{Model, Move, Owns};
 
-// A `Vec` whose room is out.
+// A `Vec` without its room: whoever brings the room gets the `Vec` for it.
 pub(crate) struct Sole {
     vec: Vec<u8>,
 }
@@ -26,8 +26,8 @@ impl Move for Sole {
     ghost own_val = { λ e vs. fex Inside (λ v. fwand (room_owns e.ptr e.len) (Fields.own_val v vs)) };
 }
 
-// Such a `Vec`, whose room is lent in `number` places until the lifetime `life` ends. A `&` to it
-// shows that `life` lasts.
+// Such a `Vec`, whose room is lent in `number` places of `room` bytes for the lifetime `life`. It
+// holds the right to end `life`, so `life` lasts while a `&` to it is there.
 pub(crate) struct Block {
     sole: Sole,
     ghost life: { ℕ },
@@ -57,12 +57,12 @@ impl Model for Places {
     ghost also_owns = { λ p. borrowed p.life p.room p.left p.ptr };
 }
 
-// A `&` to it shows nothing.
+// Through a `&` nothing of it is reached.
 unsafe impl Send for Sole {}
 
 unsafe impl Sync for Sole {}
 
-// A `&` to it shows only that a lifetime lasts.
+// A `&` to it tells that `life` lasts, and no more.
 unsafe impl Send for Block {}
 
 unsafe impl Sync for Block {}
@@ -77,7 +77,7 @@ impl Block {
         (Block { sole: Sole { vec } }, Places {})
     }
 
-    // Ends the loan.
+    // Ends the loan of all places, which no one holds any more, and puts the room back.
     fn regain(self) -> Vec<u8> {
         let Block { sole } = self;
         let Sole { vec } = sole;

@@ -1,4 +1,4 @@
-// An owner of a block whose place is out, and the `Vec` that lies in the place.
+// An owner of a block who has a place out, and the `Vec` that lies in the place.
 ghost use Rattle.std.specs.Prelude.{◌≡◌, ℕ, ◌≤◌, take};
 ghost use Rattle.std.specs.Vec.{vec_capacity, vec_ptr};
 ghost use Rattle.std.specs.Mem.Slots.{slots_ptr, slots_len, slots_items, slots_filled};
@@ -14,7 +14,7 @@ use std::marker::{Model, Move, Owns};
 use std::sync::Arc;
 use std_alloc::vec::{Lodged, lodge};
 
-// Room for `len` bytes at `ptr`, which nothing else can reach.
+// Room for `len` bytes at `ptr`, for its holder alone.
 #[derive(Drop)]
 pub(crate) struct Room {
     ghost ptr: { Ptr },
@@ -25,7 +25,8 @@ impl Model for Room {
     ghost also_owns = { λ r. room_owns r.ptr r.len };
 }
 
-// An owner of a block, whose place is out as a `Room`. The block cannot go until that is back.
+// An owner of a block while its place, `len` bytes at `ptr`, is out as a `Room`. It is an owner
+// again once the `Room` is back, so the block stays until then.
 pub(crate) struct Tether {
     block: Arc<Block>,
 }
@@ -42,12 +43,13 @@ impl Move for Tether {
     ghost own_val = { λ t vs. tether_owns t Inside (λ i. i.block.value.life) (λ i. Fields.own_val i vs) };
 }
 
-// A `&` to it shows nothing.
+// Through a `&` nothing of it is reached.
 unsafe impl Send for Tether {}
 
 unsafe impl Sync for Tether {}
 
 impl Tether {
+    // Takes the place out, and with it a share of the right to the block.
     pub(crate) fn open(block: Arc<Block>, place: Places) -> (Room, Tether)
         requires { (place.life ≡ block.value.life) × (place.left ≡ 1) }
         ensures { (result.0.ptr ≡ place.ptr) × (result.0.len ≡ place.room)
@@ -57,6 +59,7 @@ impl Tether {
         (Room {}, Tether { block })
     }
 
+    // Puts the place back, whatever lies there.
     pub(crate) fn close(self, room: Room) -> Arc<Block>
         requires { (room.ptr ≡ self.ptr) × (room.len ≡ self.len) }
     {

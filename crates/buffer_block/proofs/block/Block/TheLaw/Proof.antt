@@ -1,4 +1,4 @@
--- A `&` to a block holds a share of its lifetime's token. Assumes `Logic`.
+-- Of a block its lifetime's token is lent, in shares. Assumes `Logic`.
 use mathlib.Core.List.{[], ◌∷◌}
 use base.Fraction.{full_share}
 use base.Fml.{fbor, flft}

@@ -1,4 +1,4 @@
--- A `&` to it holds nothing. Assumes `Logic`.
+-- Nothing is reached through a `&`, so there is nothing to lend. Assumes `Logic`.
 use base.Fraction.{full_share}
 use denote.Memory.{part_at}
 use denote.SharingLaws.{nothing_shr_laws}
