@@ -5,8 +5,8 @@ use crate::block::{Block, Places};
 use crate::tether::{Tether, house, row, vacate};
 use std::alloc::{AllocError, Global};
 use std::marker::Model;
-use std::mem;
 use std::sync::Arc;
+use std::{fmt, mem};
 use std_alloc::vec::Lodged;
 
 /// A buffer of bytes with a fixed room, which lies in a block that it shares with others.
@@ -99,6 +99,15 @@ impl BlockBuf {
         ensures within { length result.now ≤ self.now.room }
     {
         self.bytes.as_slice()
+    }
+}
+
+impl fmt::Debug for BlockBuf {
+    fn fmt<W: fmt::Write>(&self, f: &mut fmt::Formatter<W>) -> fmt::Result {
+        f.debug_struct("BlockBuf")
+            .field("room", &self.room())
+            .field("bytes", &self.bytes())
+            .finish()
     }
 }
 

@@ -61,6 +61,19 @@ fn a_buffer_holds_what_was_put_last(rt: HostRuntime) -> Result<(), Fail> {
 }
 
 #[test]
+fn a_buffer_is_shown_with_its_room(rt: HostRuntime) -> Result<(), Fail> {
+    let mut bufs = opened(&rt, 4, 1)?;
+    for buf in bufs.iter_mut() {
+        assert!(rt; put(buf, &[1, 2]));
+        let Ok(text) = format!(in rt.alloc(); "{buf:?}") else {
+            return Err(Fail::from("no memory"));
+        };
+        assert_eq!(rt; text.as_str(), "BlockBuf { room: 4, bytes: [1, 2] }");
+    }
+    Ok(())
+}
+
+#[test]
 fn no_buffer_reaches_into_another(rt: HostRuntime) -> Result<(), Fail> {
     let mut bufs = opened(&rt, 2, 3)?;
     let rows = [[1, 2], [3, 4], [5, 6]];
