@@ -1,0 +1,5 @@
+pub mod NumberLaws
+pub mod FieldLaws
+pub mod TakingLaws
+pub mod CaptureLaws
+pub mod ReadingLaws
