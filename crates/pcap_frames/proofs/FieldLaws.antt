@@ -79,6 +79,7 @@ form_with : Bool → Bool → FileForm
 form_with big nanos = record { big = big; nanos = nanos }
 
 pub one_form : (f g : FileForm) → magic_of f ≡ magic_of g → f ≡ g
+unfolding form_with
 one_form f g e =
     let same = bits_of_magic f.big f.nanos g.big g.nanos e in
     ap (λ b. form_with b f.nanos) same.0 ∙ ap (λ n. form_with g.big n) same.1

@@ -3,3 +3,5 @@ pub mod FieldLaws
 pub mod TakingLaws
 pub mod CaptureLaws
 pub mod ReadingLaws
+pub mod SpellingLaws
+pub mod DatagramLaws

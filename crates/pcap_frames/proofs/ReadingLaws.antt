@@ -7,7 +7,7 @@ use Rattle.replay_form.specs.Head.{IsHead}
 use Rattle.replay_form.specs.Reading.{kept_of, whole_bytes}
 use Rattle.replay_form.specs.Reading.{Reading as HeaderReading, begun as header_begun}
 use Rattle.replay_form.specs.declared.event.RecordFault.{RecordFault}
-use Rattle.replay_form.proofs.ReadingLaws.{kept_whole, more_taken, not_both}
+use Rattle.replay_form.proofs.ReadingLaws.{kept_whole, not_both}
 use Rattle.pcap_frames.specs.CaptureFields.{Captured, IsCaptured, IsFilePart, IsFileHead, IsFileWrongAt, IsRecordPart, IsRecordWrongAt, IsWholeRecord, captured_in}
 use Rattle.pcap_frames.specs.CaptureFile.{EndsInside, IsCapture, IsCaptureWrongAt, IsCut, IsHeaded, IsOpen, IsOpened}
 use Rattle.pcap_frames.specs.Reading.{Reading, begun, held_record, IsRecordIn, IsBeginning, IsOpening, IsGoing, StandsIn, StandsSound, StandsWith, StandsFor, IsFresh, IsMoreIn, IsMoreOfHeader, IsMoreOfFile, IsMoreOfRecord, IsMore, IsHeadRead, IsFileRead, IsRecordRead, IsStep, IsWrongIn, IsNewFault, IsFailed, IsShortIn, IsUnfinished, IsFinished, records_after}
@@ -34,18 +34,18 @@ more_in : (stage : Stage) (old : Reading) (piece : List ℕ) (new : Reading) (ta
     → IsMoreIn stage old piece new → StandsSound old taken records → StandsFor new (taken ++ piece) records
 more_in stages.Header old piece new taken records sound stage more s =
     let b = in_stage old stages.Header taken records stage s in
-    let after : Reading = record old { header = new.header; start = old.start + length piece } in
+    let after : Reading = record old { header = new.header; start = old.start + length piece; whole = false; held = [] } in
     let bytes : taken ++ piece ≡ header_begun old.header ++ piece = ap (λ xs. xs ++ piece) b.bytes in
     let here : IsBeginning after (taken ++ piece) records = record {
       started = more.started;
       none = b.none;
       bytes = bytes ∙ sym more.bytes;
       part = subst IsHeadPart (sym bytes) more.part;
-      nothing = b.nothing;
+      nothing = refl;
     } in
     subst (λ r. StandsFor r (taken ++ piece) records) (sym more.after)
     (stands_sound after (taken ++ piece) records sound (record {
-      start = omega (arith, s.start, length-append taken piece);
+      start = omega (arith, s.start, ap length b.nothing, length-append taken piece);
       staged = subst (λ (g : Stage). StandsIn g after (taken ++ piece) records) (sym stage) here;
     }))
 more_in stages.FileHead old piece new taken records sound stage more s =
@@ -74,6 +74,9 @@ more_in (stages.Records form) old piece new taken records sound stage more s =
       staged = subst (λ (g : Stage). StandsIn g after (taken ++ piece) records) (sym stage) here;
     }))
 
+more_taken : (taken piece : List ℕ) (count : ℕ) → count ≡ length piece → taken ++ piece ≡ taken ++ take count piece
+more_taken taken piece count e = ap (λ xs. taken ++ xs) (sym (take_all count piece (omega arith)))
+
 more_stands : (old : Reading) (piece : List ℕ) (count : ℕ) (new : Reading) (taken : List ℕ) (records : List Captured) → IsMore old piece count new → StandsFor old taken records
     → StandsFor new (taken ++ take count piece) records
 more_stands old piece count new taken records step stands =
@@ -88,20 +91,20 @@ head_stands old piece count new taken records step stands =
     let b = in_stage old stages.Header taken records step.stage s in
     let front = take count piece in
     let bytes : taken ++ front ≡ header_begun old.header ++ front = ap (λ xs. xs ++ front) b.bytes in
-    let after : Reading = record old { header = new.header; stage = stages.FileHead; start = old.start + count } in
+    let after : Reading = record old { header = new.header; stage = stages.FileHead; start = old.start + count; whole = false; held = [] } in
     let headed : IsHeaded new.header.head [] (taken ++ front) = subst (λ xs. IsHeaded new.header.head [] xs) (sym bytes)
     (headed-head new.header.head (header_begun old.header ++ front) step.says) in
     let here : IsOpening after (taken ++ front) records = record {
       started = step.started;
       none = b.none;
       so_far = record {
-        headed = headed-as new.header.head [] (begun old) (taken ++ front) (sym b.nothing) headed;
-        part = subst IsFilePart (sym b.nothing) nothing_opened;
+        headed = headed;
+        part = nothing_opened;
       };
     } in
     subst (λ r. StandsFor r (taken ++ front) records) (sym step.after)
     (stands_sound after (taken ++ front) records step.sound (record {
-      start = omega (arith, s.start, length-append taken front, length-take-le count piece step.few);
+      start = omega (arith, s.start, ap length b.nothing, length-append taken front, length-take-le count piece step.few);
       staged = here;
     }))
 
@@ -135,6 +138,7 @@ captured_with stamp bytes = record { stamp = stamp; bytes = bytes }
 -- a record is whole
 record_stands : (old : Reading) (piece : List ℕ) (count : ℕ) (new : Reading) (taken : List ℕ) (records : List Captured) → IsRecordRead old piece count new
     → StandsFor old taken records → StandsFor new (taken ++ take count piece) (records ++ held_record new (take count piece) ∷ [])
+unfolding captured_with
 record_stands old piece count new taken records step stands =
     let s = sound_stands old taken records step.sound stands in
     let form = step.form in
@@ -270,3 +274,25 @@ unfinished None reading taken records offset ends stands =
 pub unfinished_told : (reading : Reading) (taken : List ℕ) (records : List Captured) (offset : ℕ) → IsUnfinished reading.fault reading offset
     → StandsFor reading taken records → IsCaptureWrongAt records taken offset ⊎ (EndsInside taken × (offset ≡ length taken))
 unfinished_told reading taken records offset ends stands = unfinished reading.fault reading taken records offset ends stands
+
+-- where a record is whole, it stands in the bytes taken, or in those held
+record_lies : (old : Reading) (piece : List ℕ) (count : ℕ) (new : Reading) → IsRecordRead old piece count new → IsRecordIn new (take count piece)
+unfolding captured_with
+record_lies old piece count new step =
+    let front = take count piece in
+    let bytes = begun old ++ front in
+    let stamp = (captured_in step.form bytes).stamp in
+    subst (λ r. IsRecordIn r front) (sym step.after)
+    (step.form, subst (λ bs. IsCaptured step.form (captured_with stamp (drop 16 bs)) bs) (sym (kept_whole (begun old) front)) (record { whole = step.whole; told = refl }))
+
+idle_in : (stage : Stage) (old : Reading) (piece : List ℕ) (new : Reading) → IsMoreIn stage old piece new → new.whole ≡ false
+idle_in stages.Header old piece new more = ap (λ (r : Reading). r.whole) more.after
+idle_in stages.FileHead old piece new more = ap (λ (r : Reading). r.whole) more.after
+idle_in (stages.Records form) old piece new more = ap (λ (r : Reading). r.whole) more.after
+
+pub step_lies : (old : Reading) (piece : List ℕ) (count : ℕ) (event : CaptureEvent) (new : Reading) → IsStep old piece count event new → new.whole ≡ true
+    → IsRecordIn new (take count piece)
+step_lies old piece count events.More new step whole = not_both new.whole whole (idle_in old.stage old piece new step.staged)
+step_lies old piece count events.Head new step whole = not_both new.whole whole (ap (λ (r : Reading). r.whole) step.after)
+step_lies old piece count events.File new step whole = not_both new.whole whole (ap (λ (r : Reading). r.whole) step.after)
+step_lies old piece count events.Record new step whole = record_lies old piece count new step

@@ -86,7 +86,7 @@ pub record IsMoreOfHeader (old : Reading) (piece : List ℕ) (new : Reading) : T
   pub started : new.header.started ≡ false
   pub bytes : header_begun new.header ≡ header_begun old.header ++ piece
   pub part : IsHeadPart (header_begun old.header ++ piece)
-  pub after : new ≡ record old { header = new.header; start = old.start + length piece }
+  pub after : new ≡ record old { header = new.header; start = old.start + length piece; whole = false; held = [] }
 
 pub record IsMoreOfFile (old : Reading) (piece : List ℕ) (new : Reading) : Type 0 where
   pub part : IsFilePart (begun old ++ piece)
@@ -114,7 +114,7 @@ pub record IsHeadRead (old : Reading) (piece : List ℕ) (count : ℕ) (new : Re
   pub began : old.header.started ≡ false
   pub started : new.header.started ≡ true
   pub says : IsHead new.header.head (header_begun old.header ++ take count piece)
-  pub after : new ≡ record old { header = new.header; stage = stages.FileHead; start = old.start + count }
+  pub after : new ≡ record old { header = new.header; stage = stages.FileHead; start = old.start + count; whole = false; held = [] }
 
 -- or as many as the head of the file has;
 pub record IsFileRead (old : Reading) (piece : List ℕ) (count : ℕ) (new : Reading) : Type 0 where

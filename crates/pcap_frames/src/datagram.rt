@@ -1,5 +1,5 @@
-ghost use Rattle.std.specs.Prelude.{◌≡◌, ◌+◌, ◌≤◌, ℕ, length, IfSome, IfNone};
-ghost use Rattle.pcap_frames.specs.Datagrams.{UdpDatagram, HoldsDatagram, IsPacketAt, IsUdpAt, datagram_at, datagram_size, header_size};
+ghost use Rattle.std.specs.Prelude.{◌≡◌, ◌+◌, ◌<◌, ◌≤◌, ◌⊎◌, ◌↔◌, ℕ, IsTrue, length, IfSome, IfNone};
+ghost use Rattle.pcap_frames.specs.Datagrams.{UdpDatagram, HoldsDatagram, IsPacketAt, IsTag, IsUdpAt, datagram_at, datagram_size, header_size, number_at};
 
 use crate::numbers::u16_in;
 
@@ -46,7 +46,9 @@ pub fn datagram_of(bytes: &[u8]) -> Option<Datagram<'_>>
     }
 }
 
-fn is_tag(type_number: u16) -> bool {
+fn is_tag(type_number: u16) -> bool
+    ensures { IsTrue result ↔ IsTag type_number }
+{
     type_number == CUSTOMER_TAG || type_number == SERVICE_TAG
 }
 
@@ -115,6 +117,9 @@ fn datagram_in(bytes: &[u8], start: usize) -> Option<Datagram<'_>>
 fn datagram_within(bytes: &[u8], offset: usize, room: usize) -> Option<Datagram<'_>>
     requires least { 8 ≤ room }
     requires there { offset + room ≤ length bytes.now }
+    ensures found { IfSome result (λ d. (8 ≤ number_at (offset + 4) bytes.now) × ((number_at (offset + 4) bytes.now ≤ room)
+        × (record { source = d.source; destination = d.destination; payload = d.payload.now } ≡ datagram_at bytes.now offset (number_at (offset + 4) bytes.now)))) }
+    ensures none { IfNone result ((number_at (offset + 4) bytes.now < 8) ⊎ (room < number_at (offset + 4) bytes.now)) }
 {
     let length = u16_in(true, bytes, offset + 4) as usize;
     if length < UDP_HEADER {

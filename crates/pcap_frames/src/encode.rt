@@ -1,4 +1,4 @@
-ghost use Rattle.std.specs.Prelude.{◌≡◌, ◌+◌, ◌≤◌, ℕ, length, take, drop};
+ghost use Rattle.std.specs.Prelude.{◌≡◌, ◌+◌, ◌/◌, ◌≤◌, ℕ, length, take, drop};
 ghost use Rattle.pcap_frames.specs.CaptureFields.{IsCaptured, IsFileHead, magic_of, unit_of};
 ghost use Rattle.pcap_frames.specs.Numbers.{number_in};
 ghost use Rattle.pcap_frames.specs.Spelling.{IsWholeIn};
@@ -77,8 +77,8 @@ fn fraction_of(form: FileForm, time: Stamp) -> u32
 fn put_u16(big: bool, into: &mut [u8], offset: usize, number: u16)
     requires { offset + 2 ≤ length into.old }
     ensures there { number_in big offset 2 into.new ≡ number }
-    ensures front { take offset into.new ≡ take offset into.old }
-    ensures stays { drop (offset + 2) into.new ≡ drop (offset + 2) into.old }
+    ensures front { (n : ℕ) → n ≤ offset → take n into.new ≡ take n into.old }
+    ensures stays { (n : ℕ) → offset + 2 ≤ n → drop n into.new ≡ drop n into.old }
 {
     if big {
         BigEndian::write_u16(&mut into[offset..], number);
@@ -90,8 +90,8 @@ fn put_u16(big: bool, into: &mut [u8], offset: usize, number: u16)
 fn put_u32(big: bool, into: &mut [u8], offset: usize, number: u32)
     requires { offset + 4 ≤ length into.old }
     ensures there { number_in big offset 4 into.new ≡ number }
-    ensures front { take offset into.new ≡ take offset into.old }
-    ensures stays { drop (offset + 4) into.new ≡ drop (offset + 4) into.old }
+    ensures front { (n : ℕ) → n ≤ offset → take n into.new ≡ take n into.old }
+    ensures stays { (n : ℕ) → offset + 4 ≤ n → drop n into.new ≡ drop n into.old }
 {
     if big {
         BigEndian::write_u32(&mut into[offset..], number);

@@ -112,7 +112,7 @@ pub(crate) fn whole_record(form: FileForm, bytes: &[u8]) -> Option<usize>
     if bytes.len() < RECORD_HEAD {
         return None;
     }
-    if judge_record(form, bytes).is_err() {
+    if let Err(_) = judge_record(form, bytes) {
         return None;
     }
     let size = size_of_record(form, bytes);
