@@ -1,5 +1,5 @@
 -- Laws of the fields: which of them are right hangs on the bytes up to their ends alone.
-use Rattle.std.proofs.Common.{◌≡◌, ℕ, zero, suc, ◌+◌, ◌*◌, ◌<◌, ◌≤◌, Bool, true, false, List, ◌++◌, length, take, drop, refl, sym, ap, ◌∙◌, subst, length-append, arith}
+use Rattle.std.proofs.Common.{◌≡◌, ℕ, zero, suc, ◌+◌, ◌*◌, ◌<◌, ◌≤◌, Bool, true, false, List, ◌++◌, length, take, drop, refl, sym, ap, ◌∙◌, subst, length-append, take-append-drop, arith}
 use Rattle.std.proofs.lemmas.List.{length-take-le}
 use Rattle.pcap_frames.specs.Numbers.{number_in}
 use Rattle.pcap_frames.specs.CaptureFields.{AreFileFields, IsFileHead, IsFilePart, IsFileWrongAt, AreRecordFields, IsWholeRecord, IsRecordPart, IsRecordWrongAt, file_place, fraction_limit, magic_of, record_size}
@@ -188,3 +188,14 @@ whole_in_front form bytes there right fit =
         captured = λ h. omega (arith, captured, right.captured (omega arith));
       };
     }
+
+-- a front that is a whole record: no field is wrong, and all of it is there
+pub whole_told : (form : FileForm) (bytes : List ℕ) (n : ℕ) → IsWholeRecord form (take n bytes) → AreRecordFields form 16 bytes × (record_size form bytes ≡ length (take n bytes))
+whole_told form bytes n whole =
+    let all = take-append-drop n bytes in (
+      subst (λ xs. AreRecordFields form 16 xs) all (record_fields-append form 16 (take n bytes) (drop n bytes) whole.there whole.right),
+      sym (ap (record_size form) all) ∙ record_size-append form (take n bytes) (drop n bytes) (omega (arith, whole.there)) ∙ sym whole.all,
+    )
+
+pub whole_not_wrong : (form : FileForm) (bytes : List ℕ) (n offset : ℕ) → IsRecordWrongAt form bytes offset → ¬ IsWholeRecord form (take n bytes)
+whole_not_wrong form bytes n offset wrong whole = wrong.wrong (record_fields-to form 16 (offset + 4) bytes (omega arith) (whole_told form bytes n whole).0)

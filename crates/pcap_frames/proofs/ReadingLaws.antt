@@ -1,5 +1,5 @@
 -- A reader stands for all bytes that it was given, however they were cut.
-use Rattle.std.proofs.Common.{◌≡◌, ℕ, ◌+◌, ◌<◌, ◌≤◌, ◌⊎◌, inl, inr, Bool, true, false, List, [], ◌∷◌, ◌++◌, length, take, drop, Option, Some, None, refl, sym, ap, ◌∙◌, subst, length-append, take_all, arith}
+use Rattle.std.proofs.Common.{◌≡◌, ℕ, ◌+◌, ◌<◌, ◌≤◌, ◌^◌, ◌⊎◌, inl, inr, Bool, true, false, List, [], ◌∷◌, ◌++◌, length, take, drop, Option, Some, None, refl, sym, ap, ◌∙◌, subst, length-append, take_all, arith}
 use Rattle.std.proofs.lemmas.List.{length-take-le}
 use Rattle.vrt_time.specs.Time.{TimeStamp}
 use Rattle.replay_form.specs.HeadFields.{IsHeadPart, IsHeadWrongAt}
@@ -10,7 +10,7 @@ use Rattle.replay_form.specs.declared.event.RecordFault.{RecordFault}
 use Rattle.replay_form.proofs.ReadingLaws.{kept_whole, not_both}
 use Rattle.pcap_frames.specs.CaptureFields.{Captured, IsCaptured, IsFilePart, IsFileHead, IsFileWrongAt, IsRecordPart, IsRecordWrongAt, IsWholeRecord, captured_in}
 use Rattle.pcap_frames.specs.CaptureFile.{EndsInside, IsCapture, IsCaptureWrongAt, IsCut, IsHeaded, IsOpen, IsOpened}
-use Rattle.pcap_frames.specs.Reading.{Reading, begun, held_record, IsRecordIn, IsBeginning, IsOpening, IsGoing, StandsIn, StandsSound, StandsWith, StandsFor, IsFresh, IsMoreIn, IsMoreOfHeader, IsMoreOfFile, IsMoreOfRecord, IsMore, IsHeadRead, IsFileRead, IsRecordRead, IsStep, IsWrongIn, IsNewFault, IsFailed, IsShortIn, IsUnfinished, IsFinished, records_after}
+use Rattle.pcap_frames.specs.Reading.{Reading, begun, held_record, IsRecordIn, IsBeginning, IsOpening, IsGoing, StandsIn, StandsSound, StandsWith, StandsFor, IsFresh, IsMoreIn, IsMoreOfHeader, IsMoreOfFile, IsMoreOfRecord, IsMore, IsHeadRead, IsFileRead, IsRecordRead, IsStep, IsWrongIn, IsNewFault, IsFailed, IsShortIn, IsUnfinished, IsFinished, IsHeaderKept, IsFileKept, IsKeptIn, Keeps, records_after}
 use Rattle.pcap_frames.specs.declared.event.CaptureEvent.{CaptureEvent}
 use Rattle.pcap_frames.specs.declared.event.CaptureEvent.TheVariants as events
 use Rattle.pcap_frames.specs.declared.form.FileForm.{FileForm}
@@ -296,3 +296,21 @@ step_lies old piece count events.More new step whole = not_both new.whole whole 
 step_lies old piece count events.Head new step whole = not_both new.whole whole (ap (λ (r : Reading). r.whole) step.after)
 step_lies old piece count events.File new step whole = not_both new.whole whole (ap (λ (r : Reading). r.whole) step.after)
 step_lies old piece count events.Record new step whole = record_lies old piece count new step
+
+-- ---- what a reader keeps true
+
+pub header_kept : (reading : Reading) (room : ℕ) → Keeps reading room → reading.fault ≡ None → reading.stage ≡ stages.Header → IsHeaderKept reading
+header_kept reading room keeps sound stage = subst (λ (g : Stage). IsKeptIn g reading) stage (keeps.staged sound)
+
+-- the header is whole, and the head of the file has not begun
+pub opened_kept : (reading : Reading) (room : ℕ) (header : HeaderReading) (count : ℕ) → Keeps reading room → reading.fault ≡ None → reading.stage ≡ stages.Header
+    → header.started ≡ true → reading.start + count < 2 ^ 63 → Keeps (record reading { header = header; stage = stages.FileHead; start = reading.start + count }) room
+opened_kept reading room header count keeps sound stage started small =
+    let kept = header_kept reading room keeps sound stage in
+    let none : begun reading ≡ [] = rw (kept.idle, kept.nothing) refl in
+    record {
+      held_fit = keeps.held_fit;
+      idle = keeps.idle;
+      staged = λ s. record { started = started; idle = kept.idle; part = subst IsFilePart (sym kept.nothing) nothing_opened };
+      small = λ s. omega (arith, ap length none);
+    }

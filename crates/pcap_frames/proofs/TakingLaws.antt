@@ -1,10 +1,12 @@
 -- How far the head of a file or a record has come, with a piece.
-use Rattle.std.proofs.Common.{◌≡◌, ℕ, zero, suc, ◌+◌, ◌<◌, ◌≤◌, inl, inr, List, ◌++◌, length, take, drop, sym, ap, ◌∙◌, subst, append-nil, arith}
+use Rattle.std.proofs.Common.{◌≡◌, ℕ, zero, suc, ◌+◌, ◌<◌, ◌≤◌, inl, inr, List, [], ◌++◌, length, take, drop, sym, ap, ◌∙◌, subst, append-nil, arith}
 use Rattle.std.proofs.lemmas.Bool.{cases_order}
 use Rattle.std.proofs.lemmas.List.{length-drop}
 use Rattle.replay_form.proofs.Taking.{all_of_piece, two_parts}
 use Rattle.pcap_frames.specs.CaptureFields.{AreRecordFields, IsFileHead, IsFilePart, IsFileWrongAt, IsRecordPart, IsRecordWrongAt, IsWholeRecord, record_size}
-use Rattle.pcap_frames.specs.Taking.{IsFileWhole, IsRecordBegun, IsRecordWhole}
+use Rattle.pcap_frames.specs.Taking.{IsRecordBegun, IsRecordWhole, IsRecordMoved, IsRecordTaken}
+use Rattle.pcap_frames.specs.declared.take.RecordTaken.{RecordTaken}
+use Rattle.pcap_frames.specs.declared.take.RecordTaken.TheVariants as records
 use Rattle.pcap_frames.specs.declared.form.FileForm.{FileForm}
 use Rattle.pcap_frames.proofs.FieldLaws.{file_wrong-append, record_fields-append, record_fields-to, record_size-append, record_wrong-append}
 
@@ -66,3 +68,10 @@ record_takes_some form old piece new zero part e whole =
     let long : length old ≡ record_size form old = subst (λ xs. length xs ≡ record_size form xs) same whole.all in
     absurd (omega (arith, part.short))
 record_takes_some form old piece new (suc n) part e whole = omega arith
+
+-- where nothing is held and no record stands in the piece alone, none is whole
+pub moved_taken : (form : FileForm) (old piece : List ℕ) (taken : RecordTaken) (new : List ℕ) → old ≡ [] → ((n : ℕ) → n ≤ length piece → ¬ IsWholeRecord form (take n piece))
+    → IsRecordMoved form old piece taken new → IsRecordTaken form old piece taken new
+moved_taken form old piece records.Part new none no_record is = is
+moved_taken form old piece (records.Whole count) new none no_record is =
+    absurd (no_record count is.few (subst (IsWholeRecord form) (is.held ∙ ap (λ xs. xs ++ take count piece) none) is.whole))

@@ -1,4 +1,4 @@
-ghost use Rattle.std.specs.Prelude.{◌≡◌, ◌+◌, ◌≤◌, ◌<◌, true, length, take, IfOk, OnOk, IfErr, IfSome, IfNone};
+ghost use Rattle.std.specs.Prelude.{◌≡◌, ◌+◌, ◌≤◌, ◌<◌, ℕ, true, length, take, IfOk, OnOk, IfErr, IfSome, IfNone};
 ghost use Rattle.pcap_frames.specs.CaptureFields.{AreRecordFields, IsFileWrongAt, IsRecordWrongAt, IsWholeRecord, fraction_limit, magic_of, record_size};
 ghost use Rattle.pcap_frames.specs.Numbers.{number_in};
 ghost use Rattle.pcap_frames.specs.Taking.{IsFileJudged};
@@ -108,6 +108,7 @@ pub(crate) fn judge_record(form: FileForm, bytes: &[u8]) -> Result<(), usize>
 pub(crate) fn whole_record(form: FileForm, bytes: &[u8]) -> Option<usize>
     ensures few { IfSome result (λ size. size ≤ length bytes.now) }
     ensures whole { IfSome result (λ size. IsWholeRecord form (take size bytes.now)) }
+    ensures none { IfNone result ((n : ℕ) → n ≤ length bytes.now → ¬ IsWholeRecord form (take n bytes.now)) }
 {
     if bytes.len() < RECORD_HEAD {
         return None;
