@@ -76,14 +76,17 @@ nothing_open form = head_part form [] (omega arith) (record_nothing form [] (ome
 -- what was wrong stays wrong, at the same place
 pub capture_wrong-append : (records : List Captured) (bytes more : List ℕ) (offset : ℕ) → IsCaptureWrongAt records bytes offset → IsCaptureWrongAt records (bytes ++ more) offset
 capture_wrong-append records bytes more offset (inl (none, inl early)) = inl (none, inl (wrong-append bytes more offset early))
-capture_wrong-append records bytes more offset (inl (none, inr file)) = inl (none, inr (record {
-  head = file.head;
-  rest = file.rest ++ more;
-  headed = headed-append file.head file.rest bytes more file.headed;
-  place = file.place;
-  file = file_wrong-append file.rest more file.place file.file;
-  told = omega (arith, file.told, length-append file.rest more, length-append bytes more);
-}))
+capture_wrong-append records bytes more offset (inl (none, inr file)) = inl (
+  none,
+  inr (record {
+    head = file.head;
+    rest = file.rest ++ more;
+    headed = headed-append file.head file.rest bytes more file.headed;
+    place = file.place;
+    file = file_wrong-append file.rest more file.place file.file;
+    told = omega (arith, file.told, length-append file.rest more, length-append bytes more);
+  }),
+)
 capture_wrong-append records bytes more offset (inr behind) = inr (record {
   head = behind.head;
   form = behind.form;

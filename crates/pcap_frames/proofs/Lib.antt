@@ -5,3 +5,4 @@ pub mod CaptureLaws
 pub mod ReadingLaws
 pub mod SpellingLaws
 pub mod DatagramLaws
+pub mod IntakeLaws

@@ -180,14 +180,17 @@ wrong_in stages.Header old piece offset taken records stage wrong s =
     inl (b.none, inl (subst (λ xs. IsHeadWrongAt xs offset) (ap (λ xs. xs ++ piece) (sym b.bytes)) wrong.1))
 wrong_in stages.FileHead old piece offset taken records stage wrong s =
     let o = in_stage old stages.FileHead taken records stage s in
-    inl (o.none, inr (record {
-      head = old.header.head;
-      rest = begun old ++ piece;
-      headed = headed-append old.header.head (begun old) taken piece o.so_far.headed;
-      place = wrong.0;
-      file = wrong.1.0;
-      told = omega (arith, wrong.1.1, s.start, length-append (begun old) piece, length-append taken piece);
-    }))
+    inl (
+      o.none,
+      inr (record {
+        head = old.header.head;
+        rest = begun old ++ piece;
+        headed = headed-append old.header.head (begun old) taken piece o.so_far.headed;
+        place = wrong.0;
+        file = wrong.1.0;
+        told = omega (arith, wrong.1.1, s.start, length-append (begun old) piece, length-append taken piece);
+      }),
+    )
 wrong_in (stages.Records form) old piece offset taken records stage wrong s =
     let o = in_stage old (stages.Records form) taken records stage s in
     inr (record {
@@ -314,3 +317,8 @@ opened_kept reading room header count keeps sound stage started small =
       staged = λ s. record { started = started; idle = kept.idle; part = subst IsFilePart (sym kept.nothing) nothing_opened };
       small = λ s. omega (arith, ap length none);
     }
+
+-- without a fault, the number of all bytes is known
+pub stands_size : (reading : Reading) (taken : List ℕ) (records : List Captured) → reading.fault ≡ None → StandsFor reading taken records
+    → reading.start + length (begun reading) ≡ length taken
+stands_size reading taken records sound stands = (sound_stands reading taken records sound stands).start

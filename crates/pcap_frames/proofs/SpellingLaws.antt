@@ -126,8 +126,8 @@ captured_written form time captured mid final stamp whole most room seconds frac
         };
       };
       told = sym (ap (λ k. captured_as (stamp_as k (number_in form.big 4 4 bytes * unit_of form)) (drop 16 bytes)) s
-      ∙ ap (λ k. captured_as (stamp_as time.seconds k) (drop 16 bytes)) picos
-      ∙ ap (λ xs. captured_as (stamp_as time.seconds time.picos) xs) behind);
+          ∙ ap (λ k. captured_as (stamp_as time.seconds k) (drop 16 bytes)) picos
+          ∙ ap (λ xs. captured_as (stamp_as time.seconds time.picos) xs) behind);
     }
 
 pub record_written : (form : FileForm) (time : TimeStamp) (captured mid self : List ℕ) → IsStamp time → IsWholeIn form time → length captured ≤ 262144

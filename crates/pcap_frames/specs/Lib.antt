@@ -5,3 +5,4 @@ pub mod Taking
 pub mod Reading
 pub mod Spelling
 pub mod Datagrams
+pub mod CaptureGrammar

@@ -19,6 +19,7 @@ const IPV4: u16 = 0x0800;
 
 /// The EtherTypes of a customer's and a provider's tag (IEEE 802.1Q).
 const CUSTOMER_TAG: u16 = 0x8100;
+
 const SERVICE_TAG: u16 = 0x88A8;
 
 /// The protocol number of UDP.

@@ -3,6 +3,8 @@
 #![tactic(auto)]
 
 mod datagram;
+#[cfg(test)]
+mod datagram_tests;
 mod encode;
 mod event;
 mod form;
@@ -11,6 +13,8 @@ mod numbers;
 mod reader;
 mod stage;
 mod take;
+#[cfg(test)]
+mod tests;
 
 pub use crate::datagram::{Datagram, datagram_of};
 pub use crate::encode::{encode_capture, encode_file_head};

@@ -30,10 +30,10 @@ returns-clause-free c =
     let big = c.args.form.big in
     let final = c.put_u32-5.new.into in (
       same_number big 8 4 12 final c.put_u32-2.new.into (omega arith)
-      (c.put_u32-5.ensures.front 12 (omega arith) ∙ c.put_u32-4.ensures.front 12 (omega arith) ∙ c.put_u32-3.ensures.front 12 (omega arith)) ∙ c.put_u32-2.ensures.there,
+          (c.put_u32-5.ensures.front 12 (omega arith) ∙ c.put_u32-4.ensures.front 12 (omega arith) ∙ c.put_u32-3.ensures.front 12 (omega arith)) ∙ c.put_u32-2.ensures.there,
       (
         same_number big 12 4 16 final c.put_u32-3.new.into (omega arith) (c.put_u32-5.ensures.front 16 (omega arith) ∙ c.put_u32-4.ensures.front 16 (omega arith))
-        ∙ c.put_u32-3.ensures.there,
+            ∙ c.put_u32-3.ensures.there,
         same_number big 16 4 20 final c.put_u32-4.new.into (omega arith) (c.put_u32-5.ensures.front 20 (omega arith)) ∙ c.put_u32-4.ensures.there,
       ),
     )
