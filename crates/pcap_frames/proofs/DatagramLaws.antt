@@ -1,7 +1,7 @@
 -- Where an IPv4 packet begins, by the numbers behind one another.
 use Rattle.std.proofs.Common.{◌≡◌, ◌⊎◌, ℕ, zero, suc, ◌+◌, ◌*◌, ◌<◌, ◌≤◌, inl, inr, List, sym, ap, ◌∙◌, subst, refl, arith}
 use Rattle.std.proofs.lemmas.Bool.{cases_order}
-use Rattle.pcap_frames.specs.Datagrams.{IsPacketAt, IsTag, number_at}
+use Rattle.pcap_frames.specs.Datagrams.{HoldsDatagram, IsPacketAt, IsTag, UdpDatagram, datagram_at, datagram_size, header_size, number_at}
 
 -- the EtherType of IPv4 is none of a tag
 no_tag : (n : ℕ) → n ≡ 0x0800 → IsTag n → ⊥
@@ -54,3 +54,8 @@ one_packet bytes a b p q =
       | inr (inl less) ↦ absurd (one_below bytes a b p q less)
       | inr (inr more) ↦ absurd (one_below bytes b a q p more)
     ]
+
+-- so a frame holds one datagram
+pub one_datagram : (d e : UdpDatagram) (bytes : List ℕ) → HoldsDatagram d bytes → HoldsDatagram e bytes → d ≡ e
+one_datagram d e bytes p q =
+    p.told ∙ ap (λ start. datagram_at bytes (start + header_size bytes start) (datagram_size bytes start)) (one_packet bytes p.start q.start p.packet q.packet) ∙ sym q.told

@@ -6,3 +6,4 @@ pub mod ReadingLaws
 pub mod SpellingLaws
 pub mod DatagramLaws
 pub mod IntakeLaws
+pub mod VerdictLaws
