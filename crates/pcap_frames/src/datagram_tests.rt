@@ -25,10 +25,9 @@ fn tagged(tags: usize) -> [u8; 166]
     bytes
 }
 
-// The same frame with no tag, nothing behind it, and one byte changed.
-fn changed(at: usize, byte: u8) -> [u8; 150] {
-    let mut bytes = [0; 150];
-    bytes.copy_from_slice(&tagged(0)[..150]);
+// The frame with no tag, 16 bytes behind it, and one byte changed.
+fn changed(at: usize, byte: u8) -> [u8; 166] {
+    let mut bytes = tagged(0);
     if let Some(slot) = bytes.get_mut(at) {
         *slot = byte;
     }
@@ -64,7 +63,7 @@ fn a_datagram_stands_behind_at_most_two_tags(rt: HostRuntime) -> Result<(), Fail
 #[test]
 fn what_is_no_datagram_is_none(rt: HostRuntime) -> Result<(), Fail> {
     // A byte that is changed, and how many bytes the datagram carries then.
-    let edges: [(usize, u8, Option<usize>); 26] = [
+    let edges: [(usize, u8, Option<usize>); 27] = [
         (0, 1, Some(108)),
         // The EtherType.
         (12, 0x86, None),
@@ -74,8 +73,9 @@ fn what_is_no_datagram_is_none(rt: HostRuntime) -> Result<(), Fail> {
         (14, 0x55, None),
         (14, 0x35, None),
         (14, 0x44, None),
-        // A total length past the end, or in front of the datagram's.
-        (17, 0x89, None),
+        // A total length up to the end and past it, or in front of the datagram's.
+        (17, 0x98, Some(108)),
+        (17, 0x99, None),
         (17, 0x87, None),
         (16, 1, None),
         // More fragments, and a fragment's place; not to be cut, and the highest bit.
@@ -133,20 +133,36 @@ fn options_are_passed_over(rt: HostRuntime) -> Result<(), Fail> {
     Ok(())
 }
 
+// The same of the first bytes alone.
+fn carried_in_front(bytes: &[u8], len: usize) -> Option<usize> {
+    carried(&bytes[..len.min(bytes.len())])
+}
+
+// The shortest frame with a datagram, which carries nothing.
+fn shortest() -> [u8; 42] {
+    let mut bytes = [0; 42];
+    let head = [
+        0x0800_4500,
+        0x001C_0000,
+        0x0000_4011,
+        0x0000_7F00,
+        0x0001_7F00,
+        0x0001_0005,
+        0x137F_0008,
+    ];
+    put_words(&mut bytes, 3, &head);
+    bytes
+}
+
 #[test]
 fn all_bytes_of_the_packet_are_there(rt: HostRuntime) -> Result<(), Fail> {
     let bytes = tagged(0);
-    assert!(rt; carried(&bytes) == Some(108));
-    assert!(rt; carried(&bytes[..150]) == Some(108));
-    assert!(rt; carried(&bytes[..149]).is_none());
-    assert!(rt; carried(&bytes[..42]).is_none());
-    assert!(rt; carried(&[]).is_none());
-    // The shortest frame of all.
-    let mut shortest = [0; 42];
-    shortest.copy_from_slice(&bytes[..42]);
-    shortest[17] = 28;
-    shortest[39] = 8;
-    assert!(rt; carried(&shortest) == Some(0));
-    assert!(rt; carried(&shortest[..41]).is_none());
+    assert!(rt; carried_in_front(&bytes, 166) == Some(108));
+    assert!(rt; carried_in_front(&bytes, 150) == Some(108));
+    assert!(rt; carried_in_front(&bytes, 149).is_none());
+    assert!(rt; carried_in_front(&bytes, 42).is_none());
+    assert!(rt; carried_in_front(&bytes, 0).is_none());
+    assert!(rt; carried(&shortest()) == Some(0));
+    assert!(rt; carried_in_front(&shortest(), 41).is_none());
     Ok(())
 }

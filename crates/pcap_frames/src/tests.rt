@@ -64,6 +64,21 @@ fn bad(offset: u64) -> Result<(), RecordFault> {
     Err(RecordFault { offset })
 }
 
+// What a reader told: what was captured, record behind record, and each event with the number of bytes
+// that were taken.
+#[derive(Drop)]
+struct Told {
+    captured: Vec<u8>,
+    events: Vec<(usize, CaptureEvent)>,
+}
+
+fn nothing_told(alloc: Global) -> Told {
+    Told {
+        captured: Vec::new(alloc),
+        events: Vec::new(alloc),
+    }
+}
+
 // Puts the bytes of the record that is whole, if one is, behind those of the records before, and
 // answers its seconds and picoseconds as a sum.
 fn put_record(reader: &CaptureReader, taken: &[u8], captured: &mut Vec<u8>) -> Result<u64, NoMemory>
@@ -89,13 +104,13 @@ fn end_of(at: usize, first: usize, piece: usize) -> usize
 }
 
 // The sum of all times, and the verdict, where the bytes come in pieces of this size, behind a first
-// one. What was captured is put behind one another.
+// one. What is told is put behind what was.
 fn verdict_behind(
     alloc: Global,
     bytes: &[u8],
     first: usize,
     piece: usize,
-    captured: &mut Vec<u8>,
+    all: &mut Told,
 ) -> Result<(u64, Result<(), RecordFault>), NoMemory>
     requires some { 1 ≤ piece }
     requires few { piece < 2 ^ 32 }
@@ -107,11 +122,12 @@ fn verdict_behind(
     while at < bytes.len() {
         let end = bytes.len().min(end_of(at, first, piece));
         let part = &bytes[at..end];
-        let (count, _) = match reader.feed(part) {
+        let (count, event) = match reader.feed(part) {
             Ok(step) => step,
             Err(fault) => return Ok((told, Err(fault))),
         };
-        let time = put_record(&reader, &part[..count], captured)?;
+        let time = put_record(&reader, &part[..count], &mut all.captured)?;
+        all.events.push((count, event)).map_err(|_| NoMemory)?;
         told = told.wrapping_add(time);
         at += count;
     }
@@ -128,7 +144,7 @@ fn verdict(
     requires few { piece < 2 ^ 32 }
     requires small { length bytes.now < 2 ^ 32 }
 {
-    verdict_behind(alloc, bytes, 0, piece, &mut Vec::new(alloc))
+    verdict_behind(alloc, bytes, 0, piece, &mut nothing_told(alloc))
 }
 
 // The verdict in one piece.
@@ -167,29 +183,38 @@ fn a_record_is_lent_as_it_stands_wherever_it_is_cut(rt: HostRuntime) -> Result<(
     let alloc = rt.alloc();
     let bytes = capture();
     for cut in 0..=bytes.len() {
-        let mut captured = Vec::new(alloc);
-        let told = verdict_behind(alloc, &bytes, cut, 4_096, &mut captured);
+        let mut all = nothing_told(alloc);
+        let told = verdict_behind(alloc, &bytes, cut, 4_096, &mut all);
         assert!(rt; told.ok() == Some((TIME, Ok(()))));
-        assert!(rt; captured.as_slice() == &bytes[380..]);
+        assert!(rt; all.captured.as_slice() == &bytes[380..]);
     }
     Ok(())
 }
 
 #[test]
 fn each_event_comes_in_its_turn(rt: HostRuntime) -> Result<(), Fail> {
-    let bytes = capture();
+    let alloc = rt.alloc();
+    let mut all = nothing_told(alloc);
+    // The first piece ends inside the record.
+    let told = verdict_behind(alloc, &capture(), 400, 4_096, &mut all);
+    assert!(rt; told.ok() == Some((TIME, Ok(()))));
+    let events = [
+        (340, CaptureEvent::Head),
+        (24, CaptureEvent::File),
+        (36, CaptureEvent::More),
+        (130, CaptureEvent::Record),
+    ];
+    assert!(rt; all.events.as_slice() == events.as_slice());
+    Ok(())
+}
+
+#[test]
+fn a_header_is_told(rt: HostRuntime) -> Result<(), Fail> {
     let mut reader = CaptureReader::open(rt.alloc())?;
     assert!(rt; reader.head().is_none());
-    assert!(rt; reader.feed(&bytes[..400]) == Ok((340, CaptureEvent::Head)));
-    assert_eq!(rt; reader.head().ok_or("no header")?.max_words, 400);
-    assert!(rt; reader.feed(&bytes[340..400]) == Ok((24, CaptureEvent::File)));
-    assert!(rt; reader.feed(&bytes[364..400]) == Ok((36, CaptureEvent::More)));
-    assert!(rt; reader.finish() == bad(400));
-    assert!(rt; reader.record(&bytes[364..400]).is_none());
-    assert!(rt; reader.feed(&bytes[400..]) == Ok((130, CaptureEvent::Record)));
-    assert!(rt; reader.finish() == Ok(()));
-    assert!(rt; reader.feed(&[]) == Ok((0, CaptureEvent::More)));
     assert!(rt; reader.record(&[]).is_none());
+    assert!(rt; reader.feed(&capture()) == Ok((340, CaptureEvent::Head)));
+    assert_eq!(rt; reader.head().ok_or("no header")?.max_words, 400);
     Ok(())
 }
 
@@ -240,14 +265,22 @@ fn free_fields_have_any_value(rt: HostRuntime) -> Result<(), Fail> {
     Ok(())
 }
 
+// The capture with a second record of no bytes, and this word as its fraction.
+fn followed(fraction: u32) -> [u8; 546] {
+    let mut head = [0; 16];
+    put_words(&mut head, 1, &[fraction]);
+    let mut bytes = [0; 546];
+    bytes[..530].copy_from_slice(&capture());
+    bytes[530..].copy_from_slice(&head);
+    bytes
+}
+
 #[test]
 fn a_second_record_is_judged_behind_the_first(rt: HostRuntime) -> Result<(), Fail> {
     let alloc = rt.alloc();
-    let mut bytes = [0; 546];
-    bytes[..530].copy_from_slice(&capture());
-    // No microsecond, no bytes; then a second of microseconds.
-    assert!(rt; whole_verdict(alloc, &bytes).ok() == Some((TIME, Ok(()))));
-    bytes[534..538].copy_from_slice(&[0x40, 0x42, 0x0F, 0]);
+    // No microsecond; then a second of microseconds.
+    assert!(rt; whole_verdict(alloc, &followed(0)).ok() == Some((TIME, Ok(()))));
+    let bytes = followed(0x4042_0F00);
     assert!(rt; whole_verdict(alloc, &bytes).ok() == Some((TIME, bad(534))));
     assert!(rt; verdict(alloc, &bytes, 7).ok() == Some((TIME, bad(534))));
     Ok(())
@@ -289,34 +322,42 @@ fn each_magic_number_has_its_form(rt: HostRuntime) -> Result<(), Fail> {
     Ok(())
 }
 
+// The capture up to the captured bytes, of which there are as many as there may be.
+fn longest_head() -> [u8; 380] {
+    let mut bytes = [0; 380];
+    put_words(&mut bytes, 0, &routed());
+    put_words(&mut bytes, 85, &FILE);
+    put_words(&mut bytes, 91, &RECORD);
+    put_words(&mut bytes, 93, &[0x0000_0400]);
+    bytes
+}
+
 #[test]
 fn the_longest_record_is_read(rt: HostRuntime) -> Result<(), Fail> {
     let alloc = rt.alloc();
     let mut bytes = Vec::new(alloc);
-    bytes.extend_from_slice(&changed(93, &[0x0000_0400])[..380])?;
+    bytes.extend_from_slice(&longest_head())?;
     for _ in 0..64 {
         bytes.extend_from_slice(&[0; 4_096])?;
     }
     if bytes.len() > 300_000 {
         return Err(Fail::from("too long"));
     }
-    let mut captured = Vec::new(alloc);
-    let told = verdict_behind(alloc, &bytes, 0, 4_096, &mut captured);
+    let mut all = nothing_told(alloc);
+    let told = verdict_behind(alloc, &bytes, 0, 4_096, &mut all);
     assert!(rt; told.ok() == Some((TIME, Ok(()))));
-    assert_eq!(rt; captured.len(), 262_144);
+    assert_eq!(rt; all.captured.len(), 262_144);
     Ok(())
 }
 
 #[test]
 fn a_fault_stays(rt: HostRuntime) -> Result<(), Fail> {
-    let bytes = changed(85, &[0]);
     let mut reader = CaptureReader::open(rt.alloc())?;
-    assert!(rt; reader.feed(&bytes) == Ok((340, CaptureEvent::Head)));
-    assert!(rt; reader.feed(&bytes[340..]) == Err(RecordFault { offset: 340 }));
-    assert!(rt; reader.feed(b"more") == Err(RecordFault { offset: 340 }));
-    assert!(rt; reader.finish() == bad(340));
+    assert!(rt; reader.feed(b"DIFIREC3") == Err(RecordFault { offset: 0 }));
+    assert!(rt; reader.feed(b"more") == Err(RecordFault { offset: 0 }));
+    assert!(rt; reader.finish() == bad(0));
     assert!(rt; reader.record(&[]).is_none());
-    assert!(rt; reader.head().is_some());
+    assert!(rt; reader.head().is_none());
     Ok(())
 }
 
