@@ -1,5 +1,5 @@
 -- Where an IPv4 packet begins, by the numbers behind one another.
-use Rattle.std.proofs.Common.{◌≡◌, ◌⊎◌, ℕ, zero, suc, ◌+◌, ◌*◌, ◌<◌, ◌≤◌, inl, inr, List, sym, ap, ◌∙◌, subst, refl, arith}
+use Rattle.std.proofs.Common.{◌≡◌, ◌⊎◌, ℕ, zero, suc, ◌+◌, ◌*◌, ◌<◌, ◌≤◌, inl, inr, List, sym, ap, ◌∙◌, refl, arith}
 use Rattle.std.proofs.lemmas.Bool.{cases_order}
 use Rattle.pcap_frames.specs.Datagrams.{HoldsDatagram, IsPacketAt, IsTag, UdpDatagram, datagram_at, datagram_size, header_size, number_at}
 

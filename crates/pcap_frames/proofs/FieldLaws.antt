@@ -1,8 +1,8 @@
 -- Laws of the fields: which of them are right hangs on the bytes up to their ends alone.
-use Rattle.std.proofs.Common.{◌≡◌, ℕ, zero, suc, ◌+◌, ◌*◌, ◌<◌, ◌≤◌, Bool, true, false, List, ◌++◌, length, take, drop, refl, sym, ap, ◌∙◌, subst, length-append, take-append-drop, arith}
+use Rattle.std.proofs.Common.{◌≡◌, ℕ, zero, suc, ◌+◌, ◌<◌, ◌≤◌, Bool, true, false, List, ◌++◌, length, take, drop, refl, sym, ap, ◌∙◌, subst, length-append, take-append-drop, arith}
 use Rattle.std.proofs.lemmas.List.{length-take-le}
 use Rattle.pcap_frames.specs.Numbers.{number_in}
-use Rattle.pcap_frames.specs.CaptureFields.{AreFileFields, IsFileHead, IsFilePart, IsFileWrongAt, AreRecordFields, IsWholeRecord, IsRecordPart, IsRecordWrongAt, file_place, fraction_limit, magic_of, record_size}
+use Rattle.pcap_frames.specs.CaptureFields.{AreFileFields, IsFilePart, IsFileWrongAt, AreRecordFields, IsWholeRecord, IsRecordPart, IsRecordWrongAt, file_place, magic_of, record_size}
 use Rattle.pcap_frames.specs.declared.form.FileForm.{FileForm}
 use Rattle.pcap_frames.proofs.NumberLaws.{number_in-append, number_in-take}
 

@@ -1,12 +1,11 @@
 -- The reader of a capture is an intake.
-use Rattle.std.proofs.Common.{◌≡◌, ℕ, ◌+◌, ◌-◌, ◌≤◌, inl, inr, Bool, true, false, List, length, Option, Some, None, refl, sym, ap, ◌∙◌, subst, arith}
+use Rattle.std.proofs.Common.{◌≡◌, ℕ, ◌+◌, ◌≤◌, inl, inr, Bool, true, false, List, length, Option, Some, None, refl, sym, ◌∙◌, subst, arith}
 use Rattle.std.specs.Prelude.{if◌then◌else◌}
 use Rattle.replay_form.specs.Grammar.{HasWhole, IsLawful, AreReads}
-use Rattle.replay_form.specs.HeadFields.{IsHeadPart}
 use Rattle.replay_form.specs.declared.record_head.RecordHead.{RecordHead}
 use Rattle.pcap_frames.specs.CaptureFields.{Captured}
-use Rattle.pcap_frames.specs.CaptureGrammar.{HasNoFault, HasRecords, capture_grammar, capture_reads, whole_in}
-use Rattle.pcap_frames.specs.Reading.{Reading, StandsIn, StandsSound, begun}
+use Rattle.pcap_frames.specs.CaptureGrammar.{HasNoFault, capture_grammar, capture_reads, whole_in}
+use Rattle.pcap_frames.specs.Reading.{Reading, StandsIn, begun}
 use Rattle.pcap_frames.specs.declared.stage.Stage.{Stage}
 use Rattle.pcap_frames.specs.declared.stage.Stage.TheVariants as stages
 use Rattle.pcap_frames.proofs.CaptureLaws.{capture_wrong-append}

@@ -1,22 +1,21 @@
 -- A reader stands for all bytes that it was given, however they were cut.
-use Rattle.std.proofs.Common.{◌≡◌, ℕ, ◌+◌, ◌<◌, ◌≤◌, ◌^◌, ◌⊎◌, inl, inr, Bool, true, false, List, [], ◌∷◌, ◌++◌, length, take, drop, Option, Some, None, refl, sym, ap, ◌∙◌, subst, length-append, take_all, arith}
+use Rattle.std.proofs.Common.{◌≡◌, ℕ, ◌+◌, ◌<◌, ◌≤◌, ◌^◌, ◌⊎◌, inl, inr, true, false, List, [], ◌∷◌, ◌++◌, length, take, drop, Option, Some, None, refl, sym, ap, ◌∙◌, subst, length-append, take_all, arith}
 use Rattle.std.proofs.lemmas.List.{length-take-le}
 use Rattle.vrt_time.specs.Time.{TimeStamp}
 use Rattle.replay_form.specs.HeadFields.{IsHeadPart, IsHeadWrongAt}
-use Rattle.replay_form.specs.Head.{IsHead}
-use Rattle.replay_form.specs.Reading.{kept_of, whole_bytes}
+use Rattle.replay_form.specs.Reading.{kept_of}
 use Rattle.replay_form.specs.Reading.{Reading as HeaderReading, begun as header_begun}
 use Rattle.replay_form.specs.declared.event.RecordFault.{RecordFault}
 use Rattle.replay_form.proofs.ReadingLaws.{kept_whole, not_both}
-use Rattle.pcap_frames.specs.CaptureFields.{Captured, IsCaptured, IsFilePart, IsFileHead, IsFileWrongAt, IsRecordPart, IsRecordWrongAt, IsWholeRecord, captured_in}
-use Rattle.pcap_frames.specs.CaptureFile.{EndsInside, IsCapture, IsCaptureWrongAt, IsCut, IsHeaded, IsOpen, IsOpened}
-use Rattle.pcap_frames.specs.Reading.{Reading, begun, held_record, IsRecordIn, IsBeginning, IsOpening, IsGoing, StandsIn, StandsSound, StandsWith, StandsFor, IsFresh, IsMoreIn, IsMoreOfHeader, IsMoreOfFile, IsMoreOfRecord, IsMore, IsHeadRead, IsFileRead, IsRecordRead, IsStep, IsWrongIn, IsNewFault, IsFailed, IsShortIn, IsUnfinished, IsFinished, IsHeaderKept, IsFileKept, IsKeptIn, Keeps, records_after}
+use Rattle.pcap_frames.specs.CaptureFields.{Captured, IsCaptured, IsFilePart, captured_in}
+use Rattle.pcap_frames.specs.CaptureFile.{EndsInside, IsCapture, IsCaptureWrongAt, IsCut, IsHeaded}
+use Rattle.pcap_frames.specs.Reading.{Reading, begun, held_record, IsRecordIn, IsBeginning, IsOpening, IsGoing, StandsIn, StandsSound, StandsWith, StandsFor, IsFresh, IsMoreIn, IsMore, IsHeadRead, IsFileRead, IsRecordRead, IsStep, IsWrongIn, IsFailed, IsShortIn, IsUnfinished, IsFinished, IsHeaderKept, IsKeptIn, Keeps, records_after}
 use Rattle.pcap_frames.specs.declared.event.CaptureEvent.{CaptureEvent}
 use Rattle.pcap_frames.specs.declared.event.CaptureEvent.TheVariants as events
 use Rattle.pcap_frames.specs.declared.form.FileForm.{FileForm}
 use Rattle.pcap_frames.specs.declared.stage.Stage.{Stage}
 use Rattle.pcap_frames.specs.declared.stage.Stage.TheVariants as stages
-use Rattle.pcap_frames.proofs.CaptureLaws.{headed-append, headed-head, headed-as, cut-append, cut-file, cut-record, nothing_open, nothing_opened, capture_wrong-append}
+use Rattle.pcap_frames.proofs.CaptureLaws.{headed-append, headed-head, cut-append, cut-file, cut-record, nothing_open, nothing_opened, capture_wrong-append}
 
 -- a reader without a fault
 pub sound_stands : (reading : Reading) (taken : List ℕ) (records : List Captured) → reading.fault ≡ None → StandsFor reading taken records → StandsSound reading taken records

@@ -4,7 +4,7 @@ use borrow.Rule.Slice.PartMut.{put_mid}
 use Rattle.std.proofs.Common.{◌≡◌, ℕ, ◌+◌, ◌-◌, ◌*◌, ◌/◌, ◌%◌, ◌<◌, ◌≤◌, ◌^◌, Bool, true, false, if◌then◌else◌, List, ◌++◌, length, take, drop, sym, ap, ◌∙◌, subst, append_assoc, append-nil, length-append, arith}
 use Rattle.std.proofs.lemmas.List.{drop_all, drop_at, drop-drop, length-drop, length-take-le, take_at, take_rest, take-append-le, take-take}
 use Rattle.byteorder.specs.Endian.{big_from, little_from, big_bytes, little_bytes}
-use Rattle.byteorder.specs.Numbers.{big_number-reads_back, little_number-reads_back, length-bytes_high_first, length-bytes_low_first}
+use Rattle.byteorder.specs.Numbers.{big_number-reads_back, little_number-reads_back}
 use Rattle.pcap_frames.specs.Numbers.{number_in}
 use Rattle.vrt_time.specs.Time.{TimeStamp, IsStamp}
 use Rattle.pcap_frames.specs.CaptureFields.{Captured, IsCaptured, fraction_limit, unit_of}

@@ -3,7 +3,7 @@ use Rattle.std.proofs.Common.{◌≡◌, ℕ, zero, suc, ◌+◌, ◌<◌, ◌�
 use Rattle.std.proofs.lemmas.Bool.{cases_order}
 use Rattle.std.proofs.lemmas.List.{length-drop}
 use Rattle.replay_form.proofs.Taking.{all_of_piece, two_parts}
-use Rattle.pcap_frames.specs.CaptureFields.{AreRecordFields, IsFileHead, IsFilePart, IsFileWrongAt, IsRecordPart, IsRecordWrongAt, IsWholeRecord, record_size}
+use Rattle.pcap_frames.specs.CaptureFields.{AreRecordFields, IsFilePart, IsFileWrongAt, IsRecordPart, IsRecordWrongAt, IsWholeRecord, record_size}
 use Rattle.pcap_frames.specs.Taking.{IsRecordBegun, IsRecordWhole, IsRecordMoved, IsRecordTaken}
 use Rattle.pcap_frames.specs.declared.take.RecordTaken.{RecordTaken}
 use Rattle.pcap_frames.specs.declared.take.RecordTaken.TheVariants as records

@@ -1,9 +1,9 @@
 -- Bytes have one verdict: they are a capture, or wrong at one place, or end inside the header, the head of the file or a record.
-use Rattle.std.proofs.Common.{◌≡◌, ◌⊎◌, ℕ, zero, suc, ◌+◌, ◌*◌, ◌<◌, ◌≤◌, inl, inr, List, [], ◌∷◌, ◌++◌, length, take, drop, refl, sym, ap, ◌∙◌, subst, append_assoc, length-append, arith}
+use Rattle.std.proofs.Common.{◌≡◌, ◌⊎◌, ℕ, zero, suc, ◌+◌, ◌<◌, ◌≤◌, inl, inr, List, [], ◌∷◌, ◌++◌, length, take, drop, refl, sym, ap, ◌∙◌, subst, append_assoc, length-append, arith}
 use Rattle.std.proofs.lemmas.Bool.{cases_order}
 use Rattle.std.proofs.lemmas.List.{take_at, drop_at}
 use Rattle.replay_form.specs.Head.{IsHead}
-use Rattle.replay_form.specs.HeadFields.{IsHeadPart, IsHeadWrongAt, head_size}
+use Rattle.replay_form.specs.HeadFields.{head_size}
 use Rattle.replay_form.specs.Standing.{HasNoHead}
 use Rattle.replay_form.specs.declared.record_head.RecordHead.{RecordHead}
 use Rattle.replay_form.proofs.OneHead.{one_head}
@@ -11,9 +11,9 @@ use Rattle.replay_form.proofs.PrefixLaws.{size-append}
 use Rattle.replay_form.proofs.RecordLaws.{cut-head}
 use Rattle.replay_form.proofs.VerdictLaws.{not_headless_later, record_stands}
 use Rattle.replay_form.proofs.VerdictLaws.{one_place as one_header_place, wrong_not_inside as header_not_inside}
-use Rattle.pcap_frames.specs.CaptureFields.{AreFileFields, AreRecordFields, Captured, IsCaptured, IsFileHead, IsFilePart, IsFileWrongAt, IsRecordPart, IsRecordWrongAt, IsWholeRecord, captured_in, file_place, record_size}
-use Rattle.pcap_frames.specs.CaptureFile.{AreCaptured, IsHeaded, IsCut, IsCapture, IsWrongInFile, IsWrongBehind, IsCaptureWrongAt, IsOpened, IsOpen, EndsInside}
-use Rattle.pcap_frames.specs.CaptureGrammar.{HasNoFile, HasFile, HasRecords}
+use Rattle.pcap_frames.specs.CaptureFields.{Captured, IsCaptured, IsFileHead, IsFilePart, IsFileWrongAt, IsRecordPart, IsRecordWrongAt, IsWholeRecord, captured_in, file_place, record_size}
+use Rattle.pcap_frames.specs.CaptureFile.{AreCaptured, IsHeaded, IsCut, IsCapture, IsCaptureWrongAt, EndsInside}
+use Rattle.pcap_frames.specs.CaptureGrammar.{HasNoFile, HasRecords}
 use Rattle.pcap_frames.specs.declared.form.FileForm.{FileForm}
 use Rattle.pcap_frames.proofs.CaptureLaws.{cut-append, cut-file, cut-record, nothing_open}
 use Rattle.pcap_frames.proofs.FieldLaws.{file_fields-append, file_fields-less, one_form, place_step, record_fields-append, record_fields-less, record_fields-to, record_size-append}

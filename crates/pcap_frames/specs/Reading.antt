@@ -1,13 +1,13 @@
 -- What a reader of a capture knows, and one call of it.
-use Rattle.std.specs.Prelude.{◌≡◌, ℕ, ◌+◌, ◌<◌, ◌≤◌, ◌^◌, ◌⊎◌, IsSome, Bool, true, false, if◌then◌else◌, List, [], ◌∷◌, ◌++◌, length, take, drop, Option, Some, None}
+use Rattle.std.specs.Prelude.{◌≡◌, ℕ, ◌+◌, ◌<◌, ◌≤◌, ◌^◌, IsSome, Bool, true, false, if◌then◌else◌, List, [], ◌∷◌, ◌++◌, length, take, drop, Option, Some, None}
 use Rattle.vrt_time.specs.Time.{TimeStamp}
 use Rattle.replay_form.specs.Head.{IsHead}
 use Rattle.replay_form.specs.HeadFields.{IsHeadPart, IsHeadWrongAt}
-use Rattle.replay_form.specs.Reading.{KeepsHead, kept_of, whole_bytes}
+use Rattle.replay_form.specs.Reading.{kept_of, whole_bytes}
 use Rattle.replay_form.specs.Reading.{Reading as HeaderReading, IsFresh as IsFreshHeader, begun as header_begun}
 use Rattle.replay_form.specs.declared.event.RecordFault.{RecordFault}
 use Rattle.pcap_frames.specs.CaptureFields.{Captured, IsCaptured, IsFileHead, IsFilePart, IsFileWrongAt, IsRecordPart, IsRecordWrongAt, IsWholeRecord, captured_in}
-use Rattle.pcap_frames.specs.CaptureFile.{EndsInside, IsCapture, IsCaptureWrongAt, IsOpen, IsOpened}
+use Rattle.pcap_frames.specs.CaptureFile.{IsCaptureWrongAt, IsOpen, IsOpened}
 use Rattle.pcap_frames.specs.declared.event.CaptureEvent.{CaptureEvent}
 use Rattle.pcap_frames.specs.declared.event.CaptureEvent.TheVariants as events
 use Rattle.pcap_frames.specs.declared.form.FileForm.{FileForm}

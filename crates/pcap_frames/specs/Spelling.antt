@@ -1,5 +1,5 @@
 -- Captured bytes that a record of a file can hold.
-use Rattle.std.specs.Prelude.{◌≡◌, ℕ, ◌%◌, ◌≤◌}
+use Rattle.std.specs.Prelude.{◌≡◌, ◌%◌}
 use Rattle.vrt_time.specs.Time.{TimeStamp}
 use Rattle.pcap_frames.specs.CaptureFields.{unit_of}
 use Rattle.pcap_frames.specs.declared.form.FileForm.{FileForm}

@@ -1,5 +1,5 @@
 -- What a piece makes of a file's head or a record that has begun.
-use Rattle.std.specs.Prelude.{◌≡◌, ℕ, ◌+◌, ◌<◌, ◌≤◌, List, ◌++◌, length, take, Option, Some, None}
+use Rattle.std.specs.Prelude.{◌≡◌, ℕ, ◌<◌, ◌≤◌, List, ◌++◌, length, take, Option, Some, None}
 use Rattle.replay_form.specs.Reading.{kept_of}
 use Rattle.pcap_frames.specs.CaptureFields.{AreRecordFields, IsFileHead, IsFilePart, IsRecordPart, IsWholeRecord, record_size}
 use Rattle.pcap_frames.specs.declared.form.FileForm.{FileForm}

@@ -1,7 +1,5 @@
 -- The head's numbers stay, and what was captured stands behind them.
-use Rattle.std.proofs.Common.{◌≡◌, ◌≤◌, ◌+◌, length, sym, ap, ◌∙◌, arith}
-use Rattle.pcap_frames.specs.Numbers.{number_in}
-use Rattle.pcap_frames.specs.CaptureFields.{unit_of}
+use Rattle.std.proofs.Common.{◌∙◌, arith}
 use Rattle.pcap_frames.proofs.NumberLaws.{same_number}
 use Rattle.pcap_frames.proofs.SpellingLaws.{record_written, head_of_record, behind_record}
 use Rattle.pcap_frames.proofs.encode.encode_capture.Goals as goal

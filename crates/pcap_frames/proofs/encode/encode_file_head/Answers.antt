@@ -1,5 +1,5 @@
 -- Each number stays while those behind it are written.
-use Rattle.std.proofs.Common.{◌≡◌, ◌≤◌, ◌+◌, length, take, ◌∙◌, true, arith}
+use Rattle.std.proofs.Common.{◌∙◌, true, arith}
 use Rattle.std.proofs.lemmas.List.{length-take-le}
 use Rattle.pcap_frames.proofs.NumberLaws.{number_in-take, same_number}
 use Rattle.pcap_frames.proofs.encode.encode_file_head.Goals as goal

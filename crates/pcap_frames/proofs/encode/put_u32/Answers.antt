@@ -1,5 +1,5 @@
 -- The number replaces the bytes there, and nothing else.
-use Rattle.std.proofs.Common.{◌≡◌, ◌≤◌, ◌+◌, length, arith}
+use Rattle.std.proofs.Common.{arith}
 use Rattle.byteorder.specs.Endian.{big_bytes, little_bytes}
 use Rattle.byteorder.specs.Numbers.{length-bytes_high_first, length-bytes_low_first}
 use Rattle.pcap_frames.proofs.SpellingLaws.{put_is, big_there, little_there, front_stays, rest_stays}

@@ -1,5 +1,5 @@
 -- Where the magic number is not there, or is none.
-use Rattle.std.proofs.Common.{◌∙◌, sym, arith}
+use Rattle.std.proofs.Common.{◌∙◌, arith}
 use Rattle.pcap_frames.proofs.FieldLaws.{file_nothing, magic_wrong}
 use Rattle.pcap_frames.proofs.judge.judge_file_head.Goals as goal
 

@@ -2,7 +2,7 @@
 use Rattle.std.proofs.Common.{◌≡◌, ◌<◌, ◌≤◌, length, ap, ◌∙◌, arith}
 use Rattle.replay_form.proofs.Taking.{whole_piece}
 use Rattle.pcap_frames.specs.CaptureFields.{record_size}
-use Rattle.pcap_frames.proofs.FieldLaws.{captured_part, captured_whole, record_most}
+use Rattle.pcap_frames.proofs.FieldLaws.{captured_part, captured_whole}
 use Rattle.pcap_frames.proofs.TakingLaws.{record_grown, record_resumes}
 use Rattle.pcap_frames.proofs.take.take_captured.Goals as goal
 

@@ -1,5 +1,5 @@
 -- The record begins, or goes on.
-use Rattle.std.proofs.Common.{◌+◌, subst}
+use Rattle.std.proofs.Common.{subst}
 use Rattle.std.proofs.lemmas.List.{take_rest}
 use Rattle.pcap_frames.specs.CaptureFields.{IsRecordWrongAt}
 use Rattle.pcap_frames.proofs.TakingLaws.{record_wrong_in_piece, whole_of_captured}

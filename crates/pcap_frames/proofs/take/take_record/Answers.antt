@@ -1,5 +1,5 @@
 -- Where nothing is held, what was moved is what is kept.
-use Rattle.std.proofs.Common.{◌≡◌, length, sym, ap, ◌∙◌, arith}
+use Rattle.std.proofs.Common.{arith}
 use Rattle.std.proofs.lemmas.Result.{IfOk-weaker}
 use Rattle.std.proofs.lemmas.List.{nil_from_length}
 use Rattle.pcap_frames.specs.Taking.{IsRecordMoved}

@@ -1,11 +1,10 @@
 -- The head of the file has not begun.
-use Rattle.std.proofs.Common.{◌≡◌, ◌<◌, ◌≤◌, ◌+◌, ◌^◌, [], length, None, ap, ◌∙◌, arith}
+use Rattle.std.proofs.Common.{◌≡◌, None, ap, ◌∙◌, arith}
 use Rattle.replay_form.specs.Reading.{Reading as HeaderReading}
-use Rattle.replay_form.specs.declared.event.Event.{Event}
 use Rattle.pcap_frames.specs.Reading.{Reading}
 use Rattle.pcap_frames.specs.declared.stage.Stage.TheVariants as stages
 use Rattle.pcap_frames.specs.contracts.reader.CaptureReader.{the_view}
-use Rattle.pcap_frames.proofs.ReadingLaws.{header_kept, opened_kept}
+use Rattle.pcap_frames.proofs.ReadingLaws.{opened_kept}
 use Rattle.pcap_frames.proofs.reader.CaptureReader.feed_header.Goals as goal
 
 pub invariant_of-self-in-Ok-default-Head : goal.invariant_of-self-in-Ok-default-Head
