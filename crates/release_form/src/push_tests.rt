@@ -4,7 +4,7 @@ ghost use Rattle.std.specs.Prelude.{◌*◌, ◌≤◌, length};
 ghost use Rattle.release_form.specs.Rules.{Obeys};
 ghost use Rattle.release_form.specs.Sizes.{GoesWith, size_with};
 
-use crate::tests::{ACK, END, HEALED, LATE, RAW, TOO_LARGE, VERSION, refused, stamp};
+use crate::tests::{ACK, END, HEALED, LATE, RAW, TOO_LARGE, VERSION, late, refused, stamp};
 use crate::{Refusal, Shown, push_record, push_run};
 use sample_binder::{Reason, Run};
 use std::alloc::Global;
@@ -45,13 +45,7 @@ fn is_pushed(
 #[test]
 fn records_without_samples_stand_behind_other_bytes(rt: HostRuntime) -> Result<(), NoMemory> {
     let alloc = rt.alloc();
-    let late = Shown::Refused {
-        frame: 4,
-        port: 5,
-        reason: 4,
-        detail: 0,
-        stamp: Some(stamp(0x6553_F101, 0)),
-    };
+    let late = late(stamp(0x6553_F101, 0));
     is_pushed(&rt, alloc, &late, &[], &LATE)?;
     let large = refused(Refusal::TooLarge, 1601);
     is_pushed(&rt, alloc, &large, &[], &TOO_LARGE)?;
@@ -152,11 +146,11 @@ fn more_samples_than_a_block_are_unpacked(rt: HostRuntime) -> Result<(), NoMemor
     let mut expected = TextBuffer::open(rt.alloc())?;
     expected.push(b"before");
     expected.push(&record);
-    let mut sample = [0; 4];
+    let mut samples = [0; 1200];
     for k in 4..304 {
-        put_word(&mut sample, 0, k % 8 << 16 | (k + 1) % 8);
-        expected.push(&sample);
+        put_word(&mut samples, k as usize - 4, k % 8 << 16 | (k + 1) % 8);
     }
+    expected.push(&samples);
     assert_eq!(rt; pushed.as_slice(), expected.as_slice());
     Ok(())
 }

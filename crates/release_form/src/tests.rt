@@ -472,7 +472,7 @@ fn refused_frames_go_both_ways(rt: HostRuntime) {
 }
 
 // The fourth frame of a record, refused since it is late.
-fn late(last: Stamp) -> Shown
+pub(crate) fn late(last: Stamp) -> Shown
     ensures refused { result ≡ Refused 4 5 4 0 (Some last) }
     ensures obeys { Obeys result }
 {

@@ -1,0 +1,5 @@
+mod Arcs
+mod Crosses
+mod Housing
+mod Rooms
+mod Vecs

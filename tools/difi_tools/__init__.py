@@ -1,0 +1,1 @@
+"""What the scripts beside this folder share. It stands outside of what is proved of `difi`."""
