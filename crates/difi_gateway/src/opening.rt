@@ -85,11 +85,6 @@ fn open_buffers(alloc: Global, max_words: u32, number: usize) -> Result<Vec<Pack
     ensures rooms { IfOk result (λ buffers. AllByRecursion (HasRoom max_words) buffers.items) }
     ensures memory { IfOk result (λ buffers. number ≤ vec_capacity buffers) }
 {
-    let Ok(mut buffers) = Vec::with_capacity(alloc, number) else {
-        return Err(NoMemory);
-    };
-    for _ in 0..number {
-        buffers.push_reserved(PacketBuf::open(alloc, max_words)?);
-    }
+    let buffers = PacketBuf::open_many(alloc, max_words, number)?;
     Ok(buffers)
 }

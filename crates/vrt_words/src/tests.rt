@@ -44,6 +44,24 @@ fn a_buffer_keeps_its_room(rt: HostRuntime) -> Result<(), Fail> {
 }
 
 #[test]
+fn buffers_that_are_opened_together_are_apart(rt: HostRuntime) -> Result<(), Fail> {
+    let Ok(mut bufs) = PacketBuf::open_many(rt.alloc(), 2, 2) else {
+        return Err(Fail::from("no memory"));
+    };
+    let (Some(mut last), Some(mut first)) = (bufs.pop(), bufs.pop()) else {
+        return Err(Fail::from("a buffer is missing"));
+    };
+    assert!(rt; bufs.is_empty());
+    last.fill(&[7; 8]);
+    first.fill(&[5; 3]);
+    drop(bufs);
+    assert_eq!(rt; last.bytes(), [7; 8].as_slice());
+    assert_eq!(rt; first.bytes(), [5; 3].as_slice());
+    assert_eq!(rt; first.room(), 8);
+    Ok(())
+}
+
+#[test]
 fn a_length_is_that_of_the_size_or_refused(rt: HostRuntime) {
     let bytes = [0; 60];
     assert!(rt; check_size(&bytes, 15) == Ok(()));
