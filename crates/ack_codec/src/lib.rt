@@ -8,12 +8,12 @@ mod reading;
 mod reports;
 mod responses;
 mod round_trip;
-mod spelling;
 #[cfg(test)]
 mod tests;
+mod writing;
 
 pub use crate::ack::{Ack, AckReport, AckState};
 pub use crate::reading::decode_ack;
 pub use crate::responses::Responses;
 pub use crate::round_trip::{one_to_one, responses_of_answers};
-pub use crate::spelling::encode_ack;
+pub use crate::writing::encode_ack;

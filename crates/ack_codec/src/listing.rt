@@ -14,7 +14,8 @@ pub(crate) fn read_responses(mask: u32, bytes: &[u8], at: usize) -> Responses
     requires there { at + number_in_mask mask ≤ length (words_of bytes.now) }
     ensures mask { result.cif0 ≡ mask }
     ensures responses { AreResponses result }
-    ensures listed { listed_words result ≡ take (number_in_mask mask) (drop at (words_of bytes.now)) }
+    ensures listed { listed_words result
+        ≡ take (number_in_mask mask) (drop at (words_of bytes.now)) }
 {
     let mut words = [0; 12];
     let listed = mask_number(mask);
@@ -59,7 +60,8 @@ pub(crate) fn put_responses(into: &mut [u8], at: usize, responses: &Responses) -
     requires room { 4 * (at + length (listed_words responses.now)) ≤ length into.old }
     ensures end { result ≡ at + length (listed_words responses.now) }
     ensures words { words_of into.new
-        ≡ take at (words_of into.old) ++ (listed_words responses.now ++ drop result (words_of into.old)) }
+        ≡ take at (words_of into.old) ++ (listed_words responses.now
+        ++ drop result (words_of into.old)) }
     ensures behind { drop (4 * result) into.new ≡ drop (4 * result) into.old }
 {
     let mut words = [0; 12];

@@ -26,8 +26,10 @@ pub(crate) fn listing_at(bytes: &[u8], at: usize, least: usize, most: usize) -> 
 /// The word at `at`, where it is a mask of fields that take so many words.
 pub(crate) fn spread_at(bytes: &[u8], at: usize, words: usize) -> Option<u32>
     requires { at < 2 ^ 32 }
-    ensures found { IfSome result (λ mask. IsMaskAt (words_of bytes.now) at mask × (width_of_mask mask ≡ words)) }
-    ensures none { IfNone result ((mask : ℕ) → IsMaskAt (words_of bytes.now) at mask → width_of_mask mask ≢ words) }
+    ensures found { IfSome result (λ mask. IsMaskAt (words_of bytes.now) at mask
+        × (width_of_mask mask ≡ words)) }
+    ensures none { IfNone result ((mask : ℕ) → IsMaskAt (words_of bytes.now) at mask
+        → width_of_mask mask ≢ words) }
 {
     let mask = mask_at(bytes, at)?;
     if mask_width(mask) == words {

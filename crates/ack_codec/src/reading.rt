@@ -53,7 +53,8 @@ fn read_state(front: &CommandPrologue, bytes: &[u8]) -> Result<Ack, Place>
     requires told { front.now.cam.s ≡ true }
     requires there { command_words front.now ≤ length (words_of bytes.now) }
     ensures found { IfOk result (IsReadBehind front.now bytes.now) }
-    ensures refused { IfErr result (λ place. IsCutAt (IsBegunOne width_of_mask (left_of front.now)) (command_words front.now)
+    ensures refused { IfErr result (λ place.
+        IsCutAt (IsBegunOne width_of_mask (left_of front.now)) (command_words front.now)
         front.now.prologue.header.size bytes.now place.word) }
 {
     match fields_at(bytes, front.words(), front.prologue.header.size) {
@@ -74,8 +75,10 @@ fn fields_at(bytes: &[u8], at: usize, size: u16) -> Result<FieldSet, Place>
     requires there { at ≤ length (words_of bytes.now) }
     requires left { at < size }
     ensures found { IfOk result (λ fields. IsFieldSet fields
-        × (drop at (words_of bytes.now) ≡ mask_of fields ∷ words_of_set fields) × (length bytes.now ≡ 4 * size)) }
-    ensures refused { IfErr result (λ place. IsCutAt (IsBegunOne width_of_mask (size - at)) at size bytes.now place.word) }
+        × (drop at (words_of bytes.now) ≡ mask_of fields ∷ words_of_set fields)
+        × (length bytes.now ≡ 4 * size)) }
+    ensures refused { IfErr result (λ place.
+        IsCutAt (IsBegunOne width_of_mask (size - at)) at size bytes.now place.word) }
 {
     let Some(cif0) = spread_at(bytes, at, usize::from(size) - at - 1) else {
         return Err(Place { word: at as u32 });

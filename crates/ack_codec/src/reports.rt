@@ -20,7 +20,8 @@ pub(crate) fn read_report(front: &CommandPrologue, bytes: &[u8]) -> Result<Ack, 
     requires told { front.now.cam.s ≡ false }
     requires there { command_words front.now ≤ length (words_of bytes.now) }
     ensures found { IfOk result (IsReadBehind front.now bytes.now) }
-    ensures refused { IfErr result (λ place. IsCutAt (IsBegunReport front.now.cam.warned front.now.cam.erred (left_of front.now))
+    ensures refused { IfErr result (λ place.
+        IsCutAt (IsBegunReport front.now.cam.warned front.now.cam.erred (left_of front.now))
         (command_words front.now) front.now.prologue.header.size bytes.now place.word) }
 {
     let at = front.words();
@@ -64,7 +65,8 @@ fn responses_at(
     requires inside { at ≤ size }
     requires allowed { IsAnswerSize false (bit_of warned + bit_of erred) (size - at) }
     ensures found { IfOk result (λ told. AreReadAt warned erred at size bytes.now told.0 told.1) }
-    ensures refused { IfErr result (λ place. IsCutAt (IsBegunReport warned erred (size - at)) at size bytes.now place.word) }
+    ensures refused { IfErr result (λ place.
+        IsCutAt (IsBegunReport warned erred (size - at)) at size bytes.now place.word) }
 {
     match (warned, erred) {
         (true, true) => match both_lists(bytes, at, size) {
@@ -91,8 +93,10 @@ fn one_list(bytes: &[u8], at: usize, size: u16) -> Result<Responses, Place>
     requires there { at ≤ length (words_of bytes.now) }
     requires left { at < size }
     ensures found { IfOk result (λ responses. AreResponses responses
-        × (drop at (words_of bytes.now) ≡ responses.cif0 ∷ listed_words responses) × (length bytes.now ≡ 4 * size)) }
-    ensures refused { IfErr result (λ place. IsCutAt (IsBegunOne number_in_mask (size - at)) at size bytes.now place.word) }
+        × (drop at (words_of bytes.now) ≡ responses.cif0 ∷ listed_words responses)
+        × (length bytes.now ≡ 4 * size)) }
+    ensures refused { IfErr result (λ place.
+        IsCutAt (IsBegunOne number_in_mask (size - at)) at size bytes.now place.word) }
 {
     let listed = usize::from(size) - at - 1;
     let Some(mask) = listing_at(bytes, at, listed, listed) else {
@@ -111,9 +115,11 @@ fn both_lists(bytes: &[u8], at: usize, size: u16) -> Result<(Responses, Response
     requires left { at + 2 ≤ size }
     requires most { size ≤ at + 26 }
     ensures found { IfOk result (λ told. AreResponses told.0 × AreResponses told.1
-        × (drop at (words_of bytes.now) ≡ told.0.cif0 ∷ told.1.cif0 ∷ (listed_words told.0 ++ listed_words told.1))
+        × (drop at (words_of bytes.now)
+        ≡ told.0.cif0 ∷ told.1.cif0 ∷ (listed_words told.0 ++ listed_words told.1))
         × (length bytes.now ≡ 4 * size)) }
-    ensures refused { IfErr result (λ place. IsCutAt (IsBegunTwo (size - at)) at size bytes.now place.word) }
+    ensures refused { IfErr result (λ place.
+        IsCutAt (IsBegunTwo (size - at)) at size bytes.now place.word) }
 {
     let listed = usize::from(size) - at - 2;
     let Some(first) = listing_at(bytes, at, listed.saturating_sub(12), listed) else {

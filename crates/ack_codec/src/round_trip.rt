@@ -15,16 +15,19 @@ ghost use Rattle.vrt_fields.specs.FieldSet.{FieldValues, IsFieldSet, bit_in, ind
 pub fn one_to_one()
     ensures one_packet { (profile : PacketProfile) (a b : Ack) (bytes : List ℕ)
         → IsDatagram (IsAck profile) a bytes → IsDatagram (IsAck profile) b bytes → a ≡ b }
-    ensures one_datagram { (profile : PacketProfile) (ack : Ack) (a b : List ℕ) → AreBytes a → AreBytes b
+    ensures one_datagram { (profile : PacketProfile) (ack : Ack) (a b : List ℕ) → AreBytes a
+        → AreBytes b
         → IsDatagram (IsAck profile) ack a → IsDatagram (IsAck profile) ack b → a ≡ b }
 {}
 
 /// One answer or `None` for each of the twelve fields makes responses: they list the fields that
 /// have an answer, and tell it.
 pub fn responses_of_answers()
-    ensures rule { (answers : FieldValues) → IsFieldSet answers → AreResponses (responses_of answers) }
+    ensures rule { (answers : FieldValues) → IsFieldSet answers
+        → AreResponses (responses_of answers) }
     ensures listed { (answers : FieldValues) (field : Field) → IsFieldSet answers
         → ((bit_in (responses_of answers).cif0 field ≡ 1) ↔ (value_of answers field ≢ None)) }
     ensures words { (answers : FieldValues) (field : Field) (word : ℕ) → IsFieldSet answers
-        → value_of answers field ≡ Some word → slice_index (responses_of answers).words (index_of field) ≡ word }
+        → value_of answers field ≡ Some word
+        → slice_index (responses_of answers).words (index_of field) ≡ word }
 {}

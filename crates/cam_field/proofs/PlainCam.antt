@@ -118,7 +118,7 @@ each_report timed naming warned erred named = record {
 abbrev pub is_named_size : ℕ → Bool
 is_named_size n = list_any (λ size. n == size) (0 ∷ 1 ∷ 2 ∷ 4 ∷ 5 ∷ 8 ∷ [])
 
--- the same numbers, one by one
+-- one of the numbers of words that two identities can have
 IsNamedSize : ℕ → Type 0
 IsNamedSize n = (n ≡ 0) ⊎ ((n ≡ 1) ⊎ ((n ≡ 2) ⊎ ((n ≡ 4) ⊎ ((n ≡ 5) ⊎ (n ≡ 8)))))
 

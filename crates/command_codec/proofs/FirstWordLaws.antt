@@ -13,7 +13,7 @@ use Rattle.command_prologue.proofs.CommandPrologueLaws.{one_before, command_leng
 use Rattle.vrt_words.specs.Growing.{AreGrown, IsStoppedAt}
 use Rattle.vrt_words.proofs.GrowingLaws.{refused_datagram, refused_datagram_in_front}
 use Rattle.command_prologue.specs.declared.prologue.CommandPrologue.{CommandPrologue}
-use Rattle.command_codec.specs.FirstWord.{AreByFirst, IsCut, missing, wrong, other}
+use Rattle.command_codec.specs.FirstWord.{AreByFirst, IsRefusedBehind, missing, wrong, other}
 
 module _ {V : Type 0} (profile : PacketProfile) (role : Role) (IsFirst : CommandPrologue → ℕ → Type 0) (IsWhole : V → List ℕ → Type 0)
     (by : AreByFirst profile role IsFirst IsWhole) where
@@ -111,7 +111,7 @@ module _ {V : Type 0} (profile : PacketProfile) (role : Role) (IsFirst : Command
           here = λ less begun. absurd (omega (arith, begun.1, long, length-take-le (suc j) rest (omega (arith, long)), end (omega (arith, long))));
         })
 
-    pub refused_by_cut : (place : ℕ) → command_words front < front.prologue.header.size → IsCut IsFirst front bytes place → IsRefused IsWhole bytes place
+    pub refused_by_cut : (place : ℕ) → command_words front < front.prologue.header.size → IsRefusedBehind IsFirst front bytes place → IsRefused IsWhole bytes place
     refused_by_cut place some (missing none e) =
         let m = command_words front in
         let words = words_of bytes in

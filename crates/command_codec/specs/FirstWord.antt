@@ -25,9 +25,9 @@ pub record AreByFirst {V : Type 0} (profile : PacketProfile) (role : Role) (IsFi
       → front.prologue.header.size ≡ command_words front + suc (length rest) → (v : V) × IsWhole v (words ++ (x ∷ rest))
 
 -- where the words behind the prologue end or go wrong: the first is missing, or wrong, or the length is another
-pub data IsCut (IsFirst : CommandPrologue → ℕ → Type 0) (front : CommandPrologue) (bytes : List ℕ) (place : ℕ) : Type 0 where
-  missing : length (words_of bytes) ≡ command_words front → place ≡ command_words front → IsCut IsFirst front bytes place
+pub data IsRefusedBehind (IsFirst : CommandPrologue → ℕ → Type 0) (front : CommandPrologue) (bytes : List ℕ) (place : ℕ) : Type 0 where
+  missing : length (words_of bytes) ≡ command_words front → place ≡ command_words front → IsRefusedBehind IsFirst front bytes place
   wrong : command_words front < length (words_of bytes) → place ≡ command_words front
-      → ¬ IsFirst front (slice_index (words_of bytes) (command_words front)) → IsCut IsFirst front bytes place
+      → ¬ IsFirst front (slice_index (words_of bytes) (command_words front)) → IsRefusedBehind IsFirst front bytes place
   other : command_words front < length (words_of bytes) → IsFirst front (slice_index (words_of bytes) (command_words front))
-      → IsOtherSize front.prologue.header.size bytes place → IsCut IsFirst front bytes place
+      → IsOtherSize front.prologue.header.size bytes place → IsRefusedBehind IsFirst front bytes place

@@ -6,7 +6,7 @@ ghost use Rattle.command_prologue.specs.CommandPrologue.{command_words};
 ghost use Rattle.command_codec.specs.declared.cancel.Cancel.{Cancel};
 ghost use Rattle.command_codec.specs.Cancel.{front_of, IsCancel};
 ghost use Rattle.command_codec.specs.Steps.{IsNamed};
-ghost use Rattle.command_codec.specs.FirstWord.{IsCut};
+ghost use Rattle.command_codec.specs.FirstWord.{IsRefusedBehind};
 
 use crate::cancel::Cancel;
 use cam_field::Role;
@@ -21,7 +21,8 @@ use vrt_words::{Place, check_size, word_or_place};
 /// they begin a longer one; where a cancellation stands first and more bytes follow, at its size.
 pub fn decode_cancel(profile: Profile, bytes: &[u8]) -> Result<Cancel, Place>
     ensures found { IfOk result (λ packet. IsDatagram (IsCancel profile) packet bytes.now) }
-    ensures only { (packet : Cancel) → IsDatagram (IsCancel profile) packet bytes.now → result ≡ Ok packet }
+    ensures only { (packet : Cancel) → IsDatagram (IsCancel profile) packet bytes.now
+        → result ≡ Ok packet }
     ensures refused { IfErr result (λ place. IsRefused (IsCancel profile) bytes.now place.word) }
 {
     match read_command_prologue(profile, Role::Cancel, bytes) {
@@ -37,7 +38,8 @@ fn read_named(front: &CommandPrologue, bytes: &[u8]) -> Result<Cancel, Place>
     ensures found { IfOk result (λ packet. (front_of packet ≡ front.now)
         × (length bytes.now ≡ 4 * front.now.prologue.header.size) × IsFieldMask packet.named
         × (drop (command_words front.now) (words_of bytes.now) ≡ packet.named ∷ [])) }
-    ensures refused { IfErr result (λ place. IsCut IsNamed front.now bytes.now place.word) }
+    ensures refused { IfErr result (λ place.
+        IsRefusedBehind IsNamed front.now bytes.now place.word) }
 {
     let at = front.words();
     let named = match word_or_place(bytes, at as u32) {

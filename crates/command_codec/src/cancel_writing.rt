@@ -18,7 +18,8 @@ pub fn encode_cancel(profile: Profile, packet: &Cancel, into: &mut [u8]) -> usiz
     requires room { 4 * packet.now.prologue.header.size ≤ length into.old }
     ensures size { result ≡ packet.now.prologue.header.size }
     ensures packet { IsDatagram (IsCancel profile) packet.now (take (4 * result) into.new) }
-    ensures again { (bytes : List ℕ) → AreBytes bytes → IsDatagram (IsCancel profile) packet.now bytes
+    ensures again { (bytes : List ℕ) → AreBytes bytes
+        → IsDatagram (IsCancel profile) packet.now bytes
         → take (4 * result) into.new ≡ bytes }
     ensures bytes { AreBytes into.new }
     ensures behind { drop (4 * result) into.new ≡ drop (4 * result) into.old }

@@ -4,7 +4,7 @@ ghost use Rattle.vrt_words.specs.Begins.{IsDatagram, IsRefused};
 ghost use Rattle.command_prologue.specs.CommandPrologue.{command_words};
 ghost use Rattle.command_codec.specs.declared.control.Control.{Control};
 ghost use Rattle.command_codec.specs.Control.{front_of, AreValues, IsContent, IsControl};
-ghost use Rattle.command_codec.specs.FirstWord.{IsCut};
+ghost use Rattle.command_codec.specs.FirstWord.{IsRefusedBehind};
 ghost use Rattle.command_codec.specs.Steps.{IsAsked, IsFollowed};
 
 use crate::control::Control;
@@ -20,7 +20,8 @@ use vrt_words::{Place, check_size, word_or_place};
 /// they begin a longer one; where a command stands first and more bytes follow, at its size.
 pub fn decode_control(profile: Profile, bytes: &[u8]) -> Result<Control, Place>
     ensures found { IfOk result (λ packet. IsDatagram (IsControl profile) packet bytes.now) }
-    ensures only { (packet : Control) → IsDatagram (IsControl profile) packet bytes.now → result ≡ Ok packet }
+    ensures only { (packet : Control) → IsDatagram (IsControl profile) packet bytes.now
+        → result ≡ Ok packet }
     ensures refused { IfErr result (λ place. IsRefused (IsControl profile) bytes.now place.word) }
 {
     match read_command_prologue(profile, Role::Control, bytes) {
@@ -36,7 +37,8 @@ fn read_content(front: &CommandPrologue, bytes: &[u8]) -> Result<Control, Place>
     ensures found { IfOk result (λ packet. (front_of packet ≡ front.now)
         × (length bytes.now ≡ 4 * front.now.prologue.header.size)
         × IsContent packet (drop (command_words front.now) (words_of bytes.now))) }
-    ensures refused { IfErr result (λ place. IsCut IsAsked front.now bytes.now place.word) }
+    ensures refused { IfErr result (λ place.
+        IsRefusedBehind IsAsked front.now bytes.now place.word) }
 {
     let at = front.words();
     let asked = match word_or_place(bytes, at as u32) {
@@ -95,7 +97,8 @@ fn packet_of(front: &CommandPrologue, asked: u32, holds: bool, bytes: &[u8]) -> 
 fn values_of(front: &CommandPrologue, asked: u32, holds: bool, bytes: &[u8]) -> Option<FieldSet>
     requires size { length bytes.now ≡ 4 * front.now.prologue.header.size }
     requires followed { IsFollowed front.now asked holds }
-    ensures { AreValues front.now.cam asked result (drop (command_words front.now + 1) (words_of bytes.now)) }
+    ensures { AreValues front.now.cam asked result
+        (drop (command_words front.now + 1) (words_of bytes.now)) }
 {
     if holds {
         Some(FieldSet::read(asked, bytes, front.words() + 1))

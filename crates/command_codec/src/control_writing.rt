@@ -19,7 +19,8 @@ pub fn encode_control(profile: Profile, packet: &Control, into: &mut [u8]) -> us
     requires room { 4 * packet.now.prologue.header.size ≤ length into.old }
     ensures size { result ≡ packet.now.prologue.header.size }
     ensures packet { IsDatagram (IsControl profile) packet.now (take (4 * result) into.new) }
-    ensures again { (bytes : List ℕ) → AreBytes bytes → IsDatagram (IsControl profile) packet.now bytes
+    ensures again { (bytes : List ℕ) → AreBytes bytes
+        → IsDatagram (IsControl profile) packet.now bytes
         → take (4 * result) into.new ≡ bytes }
     ensures bytes { AreBytes into.new }
     ensures behind { drop (4 * result) into.new ≡ drop (4 * result) into.old }
@@ -35,7 +36,8 @@ fn put_values(into: &mut [u8], at: usize, fields: &Option<FieldSet>) -> usize
     requires { 4 * (at + length (words_of_values fields.now)) ≤ length into.old }
     ensures end { result ≡ at + length (words_of_values fields.now) }
     ensures words { words_of into.new
-        ≡ take at (words_of into.old) ++ (words_of_values fields.now ++ drop result (words_of into.old)) }
+        ≡ take at (words_of into.old) ++ (words_of_values fields.now
+        ++ drop result (words_of into.old)) }
     ensures behind { drop (4 * result) into.new ≡ drop (4 * result) into.old }
 {
     match fields {

@@ -3,8 +3,6 @@
 
 mod cancel;
 mod cancel_reading;
-#[cfg(test)]
-mod cancel_tests;
 mod cancel_writing;
 mod control;
 mod control_reading;

@@ -16,7 +16,8 @@ pub fn one_to_one()
         → IsDatagram (IsControl profile) a bytes → IsDatagram (IsControl profile) b bytes → a ≡ b }
     ensures one_control_datagram { (profile : PacketProfile) (packet : Control) (a b : List ℕ)
         → AreBytes a → AreBytes b
-        → IsDatagram (IsControl profile) packet a → IsDatagram (IsControl profile) packet b → a ≡ b }
+        → IsDatagram (IsControl profile) packet a → IsDatagram (IsControl profile) packet b
+        → a ≡ b }
     ensures one_cancel { (profile : PacketProfile) (a b : Cancel) (bytes : List ℕ)
         → IsDatagram (IsCancel profile) a bytes → IsDatagram (IsCancel profile) b bytes → a ≡ b }
     ensures one_cancel_datagram { (profile : PacketProfile) (packet : Cancel) (a b : List ℕ)

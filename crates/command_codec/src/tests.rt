@@ -1,5 +1,7 @@
 ghost use Rattle.std.specs.Prelude.{◌≤◌, length};
 
+mod cancel;
+
 use super::*;
 use cam_field::Ident;
 use vrt_fields::{Field, FieldSet};
@@ -17,7 +19,7 @@ const TIMED: [u32; 13] = [
     0xC0000000, 0x600,
 ];
 
-// The same as the first, to a controllee.
+// Gain and sample rate are set at once, of a controllee that is named.
 const NAMED: [u32; 11] = [
     0x6800000B, 1, 0x006A621E, 0, 0x81080000, 1, 7, 0x00A00000, 0x600, 0, 0x00100000,
 ];

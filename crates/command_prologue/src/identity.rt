@@ -23,7 +23,8 @@ pub(crate) fn identity_at(bytes: &[u8], at: usize, named: bool, uuid: bool) -> I
     requires there { at + ident_size named uuid ≤ length (words_of bytes.now) }
     requires form { uuid ≡ true → named ≡ true }
     ensures identity { IsIdentity named uuid result }
-    ensures words { ident_words result ≡ take (ident_size named uuid) (drop at (words_of bytes.now)) }
+    ensures words { ident_words result
+        ≡ take (ident_size named uuid) (drop at (words_of bytes.now)) }
 {
     if !named {
         return Ident::None;

@@ -8,11 +8,11 @@ mod mode;
 mod prologue;
 mod reading;
 mod round_trip;
-mod spelling;
 #[cfg(test)]
 mod tests;
+mod writing;
 
 pub use crate::prologue::CommandPrologue;
 pub use crate::reading::read_command_prologue;
 pub use crate::round_trip::one_to_one;
-pub use crate::spelling::write_command_prologue;
+pub use crate::writing::write_command_prologue;

@@ -26,9 +26,11 @@ pub fn read_command_prologue(
 ) -> Result<CommandPrologue, Place>
     ensures found { IfOk result (λ front. (command_words front ≤ length (words_of bytes.now))
         × IsCommandPrologue profile role front (take (command_words front) (words_of bytes.now))) }
-    ensures only { (front : CommandPrologue) (n : ℕ) → IsCommandPrologue profile role front (take n (words_of bytes.now))
+    ensures only { (front : CommandPrologue) (n : ℕ)
+        → IsCommandPrologue profile role front (take n (words_of bytes.now))
         → result ≡ Ok front }
-    ensures refused { IfErr result (λ place. IsRefusedAt (IsCommandPrologue profile role) (words_of bytes.now) place.word) }
+    ensures refused { IfErr result (λ place.
+        IsRefusedAt (IsCommandPrologue profile role) (words_of bytes.now) place.word) }
 {
     match read_prologue_of(profile, role_kind(role), bytes) {
         Ok(prologue) => read_behind(prologue, role, bytes),
@@ -52,9 +54,12 @@ fn read_behind(prologue: Prologue, role: Role, bytes: &[u8]) -> Result<CommandPr
     requires { prologue_words prologue.header.timed ≤ length (words_of bytes.now) }
     ensures found { IfOk result (λ front. (front.prologue ≡ prologue)
         × (command_words front ≤ length (words_of bytes.now))
-        × IsBehind role front (take (2 + identity_words front.cam) (drop (prologue_words prologue.header.timed) (words_of bytes.now)))) }
-    ensures refused { IfErr result (λ place. (k : ℕ) × (place.word ≡ prologue_words prologue.header.timed + k)
-        × IsCutAt role prologue (drop (prologue_words prologue.header.timed) (words_of bytes.now)) k) }
+        × IsBehind role front (take (2 + identity_words front.cam)
+        (drop (prologue_words prologue.header.timed) (words_of bytes.now)))) }
+    ensures refused { IfErr result (λ place. (k : ℕ)
+        × (place.word ≡ prologue_words prologue.header.timed + k)
+        × IsCutAt role prologue (drop (prologue_words prologue.header.timed)
+        (words_of bytes.now)) k) }
 {
     let at = prologue_size(prologue.header.timed);
     let word = match word_or_place(bytes, at as u32) {
@@ -72,7 +77,8 @@ fn read_named(prologue: Prologue, cam: Cam, bytes: &[u8]) -> Result<CommandProlo
     requires controllee { cam.ie ≡ true → cam.ce ≡ true }
     requires controller { cam.ir ≡ true → cam.cr ≡ true }
     ensures found { IfOk result (λ front. (front.prologue ≡ prologue) × (front.cam ≡ cam)
-        × (prologue_words prologue.header.timed + 2 + identity_words cam ≤ length (words_of bytes.now))
+        × (prologue_words prologue.header.timed + 2 + identity_words cam ≤ length
+        (words_of bytes.now))
         × AreNamed front (drop (prologue_words prologue.header.timed + 1) (words_of bytes.now))) }
     ensures short { IfErr result (λ place. (place.word ≡ length (words_of bytes.now))
         × (length (words_of bytes.now) < prologue_words prologue.header.timed + 2 + identity_words cam)) }

@@ -12,11 +12,11 @@ use Rattle.vrt_time.specs.Time.{moment_of}
 use Rattle.context_timeline.specs.declared.timed_context.TimedContext.{TimedContext}
 use Rattle.context_timeline.specs.declared.mark.Mark.{Mark}
 use Rattle.context_timeline.specs.declared.mark.Mark.TheVariants.{BeforeFirst, TimelineFull, Lost, Bound}
-use Rattle.context_timeline.specs.Line.{IsRising, line_of, moments}
-use Rattle.context_timeline.proofs.LineLaws.{moment_at}
+use Rattle.context_timeline.specs.State.{IsRising, state_of, moments}
+use Rattle.context_timeline.proofs.StateLaws.{moment_at}
 use Rattle.context_timeline.specs.Marks.{mark_in, healed, mark_of_pair, mark_between}
-use Rattle.context_timeline.specs.Cut.{IsCut, mark_at_cut, mark_next}
-use Rattle.context_timeline.proofs.CutLaws.{mark_in_cut, cut_of}
+use Rattle.context_timeline.specs.Cut.{IsPartitionPoint, mark_at_cut, mark_next}
+use Rattle.context_timeline.proofs.PartitionLaws.{mark_in_cut, cut_of}
 use Rattle.context_timeline.specs.AllContexts.{AllKeptAfter, NoKeptAfter, IsSame, IsWhole, IsBetween, IsMark}
 
 abbrev moment_in : TimedContext → ℕ
@@ -79,17 +79,17 @@ module _ (limit : ℕ) (contexts : List TimedContext) (t : ℕ) where
   long : length (moments kept) ≡ length kept
   long = length-map kept moment_in
 
-  none_after : (n : ℕ) → IsCut (moments kept) t n → length kept ≤ n → NoKeptAfter limit contexts t
+  none_after : (n : ℕ) → IsPartitionPoint (moments kept) t n → length kept ≤ n → NoKeptAfter limit contexts t
   none_after n h past number k =
       let at = numbered number (omega (arith, k.last)) in
       omega (arith, h.before (number - skipped) (omega (arith, k.added, k.last, kept_length)), at)
 
-  all_after : IsCut (moments kept) t 0 → AllKeptAfter limit contexts t
+  all_after : IsPartitionPoint (moments kept) t 0 → AllKeptAfter limit contexts t
   all_after h number k =
       let at = numbered number (omega (arith, k.last)) in
       omega (arith, h.behind (number - skipped) (omega arith) (omega (arith, k.added, k.last, kept_length, long)), at)
 
-  between : (k : ℕ) (a b : TimedContext) → IsCut (moments kept) t (suc k) → slice_get kept k ≡ Some a → slice_get kept (suc k) ≡ Some b → suc k < length kept
+  between : (k : ℕ) (a b : TimedContext) → IsPartitionPoint (moments kept) t (suc k) → slice_get kept k ≡ Some a → slice_get kept (suc k) ≡ Some b → suc k < length kept
       → IsBetween limit contexts t (skipped + k) a b
   between k a b h p q there = record {
     kept = record { added = omega (arith, kept_length); last = omega arith };
@@ -108,8 +108,8 @@ module _ (limit : ℕ) (contexts : List TimedContext) (t : ℕ) where
       subst (λ (i : ℕ). IsMark limit contexts t (mark_of_pair i a b)) (sym (place_told k))
       (between_told (skipped + k) a b h (b.lost == 0 || healed a b) (whole_told a b))
 
-  next_told : (n : ℕ) (b : TimedContext) → IsCut (moments kept) t n → slice_get kept n ≡ Some b → n < length kept
-      → IsMark limit contexts t (mark_next (line_of limit contexts) n (Some b))
+  next_told : (n : ℕ) (b : TimedContext) → IsPartitionPoint (moments kept) t n → slice_get kept n ≡ Some b → n < length kept
+      → IsMark limit contexts t (mark_next (state_of limit contexts) n (Some b))
   next_told zero b h e there = before_told (omega (arith, kept_length)) (all_after h) (ltb limit (length contexts)) (Decides-ltb limit (length contexts))
   next_told (suc k) b h e there = elim (slice_get_cases kept k).1 [
     | inl a ↦
@@ -119,16 +119,16 @@ module _ (limit : ℕ) (contexts : List TimedContext) (t : ℕ) where
   ]
 
   -- the mark that a cut of the kept gives is that of all
-  pub IsMark-cut : (n : ℕ) → IsCut (moments kept) t n → IsMark limit contexts t (mark_at_cut (line_of limit contexts) n)
+  pub IsMark-cut : (n : ℕ) → IsPartitionPoint (moments kept) t n → IsMark limit contexts t (mark_at_cut (state_of limit contexts) n)
   IsMark-cut n h = elim (slice_get_cases kept n).1 [
-    | inl b ↦ subst (λ (o : Option TimedContext). IsMark limit contexts t (mark_next (line_of limit contexts) n o)) (sym b.2) (next_told n b.0 h b.2 b.1)
-    | inr none ↦ subst (λ (o : Option TimedContext). IsMark limit contexts t (mark_next (line_of limit contexts) n o)) (sym none.1) (none_after n h none.0)
+    | inl b ↦ subst (λ (o : Option TimedContext). IsMark limit contexts t (mark_next (state_of limit contexts) n o)) (sym b.2) (next_told n b.0 h b.2 b.1)
+    | inr none ↦ subst (λ (o : Option TimedContext). IsMark limit contexts t (mark_next (state_of limit contexts) n o)) (sym none.1) (none_after n h none.0)
   ]
 
--- what the mark of a line says of all contexts of which it is the line
+-- what a mark in the state for all contexts says of them all
 pub IsMark-mark_in : (limit : ℕ) (contexts : List TimedContext) (t : ℕ) → IsRising (moments (keep_last limit contexts))
-    → IsMark limit contexts t (mark_in (line_of limit contexts) t)
+    → IsMark limit contexts t (mark_in (state_of limit contexts) t)
 IsMark-mark_in limit contexts t rise =
     let cut = cut_of (moments (keep_last limit contexts)) t rise in
-    let same : mark_in (line_of limit contexts) t ≡ mark_at_cut (line_of limit contexts) cut.0 = mark_in_cut (line_of limit contexts) t cut.0 cut.1 in
+    let same : mark_in (state_of limit contexts) t ≡ mark_at_cut (state_of limit contexts) cut.0 = mark_in_cut (state_of limit contexts) t cut.0 cut.1 in
     subst (λ (m : Mark). IsMark limit contexts t m) (sym same) (IsMark-cut limit contexts t cut.0 cut.1)

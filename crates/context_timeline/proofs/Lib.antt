@@ -1,3 +1,3 @@
-pub mod LineLaws
-pub mod CutLaws
+pub mod StateLaws
+pub mod PartitionLaws
 pub mod AllContextsLaws

@@ -4,18 +4,18 @@ use Rattle.vrt_time.specs.Time.{moment_of}
 use Rattle.context_timeline.specs.declared.timed_context.TimedContext.{TimedContext}
 use Rattle.context_timeline.specs.declared.mark.Mark.{Mark}
 use Rattle.context_timeline.specs.declared.mark.Mark.TheVariants.{Open, BeforeFirst, TimelineFull, Lost, Bound}
-use Rattle.context_timeline.specs.Line.{moments}
+use Rattle.context_timeline.specs.State.{moments}
 
 -- the context of this number is one of the last ones, which are kept
-pub record IsKept (limit : ℕ) (contexts : List TimedContext) (number : ℕ) : Type 0 where
+pub record IsAmongKept (limit : ℕ) (contexts : List TimedContext) (number : ℕ) : Type 0 where
   pub added : number < length contexts
   pub last : length contexts ≤ number + limit
 
 abbrev pub AllKeptAfter : ℕ → List TimedContext → ℕ → Type 0
-AllKeptAfter limit contexts t = (number : ℕ) → IsKept limit contexts number → t < slice_index (moments contexts) number
+AllKeptAfter limit contexts t = (number : ℕ) → IsAmongKept limit contexts number → t < slice_index (moments contexts) number
 
 abbrev pub NoKeptAfter : ℕ → List TimedContext → ℕ → Type 0
-NoKeptAfter limit contexts t = (number : ℕ) → IsKept limit contexts number → slice_index (moments contexts) number ≤ t
+NoKeptAfter limit contexts t = (number : ℕ) → IsAmongKept limit contexts number → slice_index (moments contexts) number ≤ t
 
 -- one context was lost between a and b, b says that nothing changed, and their fields are equal
 pub record IsSame (a b : TimedContext) : Type 0 where
@@ -29,7 +29,7 @@ IsWhole a b = (b.lost ≡ 0) ⊎ IsSame a b
 
 -- a, which has this number and is kept, is not after t, and b, the next, is
 pub record IsBetween (limit : ℕ) (contexts : List TimedContext) (t number : ℕ) (a b : TimedContext) : Type 0 where
-  pub kept : IsKept limit contexts number
+  pub kept : IsAmongKept limit contexts number
   pub first : slice_get contexts number ≡ Some a
   pub second : slice_get contexts (number + 1) ≡ Some b
   pub reached : moment_of a.stamp ≤ t
@@ -45,7 +45,7 @@ pub record IsLost (limit : ℕ) (contexts : List TimedContext) (t n : ℕ) : Typ
   pub not_whole : ¬ IsWhole a b
 
 -- between a and b, where nothing that was lost made a difference: a is in force
-pub record IsBound (limit : ℕ) (contexts : List TimedContext) (t number : ℕ) (fields : List ℕ) : Type 0 where
+pub record IsBoundMark (limit : ℕ) (contexts : List TimedContext) (t number : ℕ) (fields : List ℕ) : Type 0 where
   pub a : TimedContext
   pub b : TimedContext
   pub between : IsBetween limit contexts t number a b
@@ -58,4 +58,4 @@ IsMark limit contexts t Open = NoKeptAfter limit contexts t
 IsMark limit contexts t BeforeFirst = (0 < length contexts) × (length contexts ≤ limit) × AllKeptAfter limit contexts t
 IsMark limit contexts t TimelineFull = (limit < length contexts) × AllKeptAfter limit contexts t
 IsMark limit contexts t (Lost n) = IsLost limit contexts t n
-IsMark limit contexts t (Bound number fields) = IsBound limit contexts t number fields
+IsMark limit contexts t (Bound number fields) = IsBoundMark limit contexts t number fields

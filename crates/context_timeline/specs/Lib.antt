@@ -1,4 +1,4 @@
-pub mod Line
+pub mod State
 pub mod Marks
 pub mod Looks
 pub mod Cut

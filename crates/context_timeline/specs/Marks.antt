@@ -5,7 +5,7 @@ use Rattle.vrt_time.specs.Time.{TimeStamp, moment_of}
 use Rattle.context_timeline.specs.declared.timed_context.TimedContext.{TimedContext}
 use Rattle.context_timeline.specs.declared.mark.Mark.{Mark}
 use Rattle.context_timeline.specs.declared.mark.Mark.TheVariants.{Open, BeforeFirst, TimelineFull, Lost, Bound}
-use Rattle.context_timeline.specs.Line.{Line, moments, horizon_of}
+use Rattle.context_timeline.specs.State.{TimelineState, moments, horizon_of}
 
 -- the greatest number below n that passes
 abbrev pub last_below : (ℕ → Bool) → ℕ → Option ℕ
@@ -35,7 +35,7 @@ mark_between place (Some a) (Some b) = mark_of_pair place a b
 mark_between place a b = BeforeFirst
 
 -- below the horizon, from where the last stands whose stamp is not above the moment
-abbrev pub mark_below : Line → Option ℕ → Mark
+abbrev pub mark_below : TimelineState → Option ℕ → Mark
 mark_below line None = mark_before line.limit line.added
 mark_below line (Some k) =
     mark_between (line.added - length line.kept + k) (slice_get line.kept k) (slice_get line.kept (k + 1))
@@ -45,7 +45,7 @@ is_below t None = false
 is_below t (Some horizon) = nat_lt t (moment_of horizon)
 
 -- the mark of the moment t
-abbrev pub mark_in : Line → ℕ → Mark
+abbrev pub mark_in : TimelineState → ℕ → Mark
 mark_in line t = if is_below t (horizon_of line) then mark_below line (last_not_after line.kept t) else Open
 
 -- the stamp of the first context after t

@@ -1,7 +1,7 @@
 ghost use Rattle.std.specs.Prelude.{ℕ, List};
 ghost use Rattle.context_timeline.specs.declared.timed_context.TimedContext.{TimedContext};
 ghost use Rattle.context_timeline.specs.AllContexts.{IsMark};
-ghost use Rattle.context_timeline.specs.Line.{IsRising, line_of, moments};
+ghost use Rattle.context_timeline.specs.State.{IsRising, state_of, moments};
 ghost use Rattle.context_timeline.specs.Marks.{mark_in};
 
 /// A law that a proof can cite, for every list of contexts whose last ones, which are kept, have
@@ -9,6 +9,6 @@ ghost use Rattle.context_timeline.specs.Marks.{mark_in};
 #[inline]
 pub fn marks_speak_of_all_contexts()
     ensures { (limit : ℕ) (contexts : List TimedContext) (moment : ℕ)
-        → IsRising (moments (line_of limit contexts).kept)
-        → IsMark limit contexts moment (mark_in (line_of limit contexts) moment) }
+        → IsRising (moments (state_of limit contexts).kept)
+        → IsMark limit contexts moment (mark_in (state_of limit contexts) moment) }
 {}

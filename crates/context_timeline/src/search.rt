@@ -1,8 +1,8 @@
 ghost use Rattle.std.specs.Prelude.{◌≡◌, ℕ, ◌+◌, ◌<◌, ◌≤◌, ◌↔◌, IsTrue, true, false, length, slice_index};
-ghost use Rattle.context_timeline.specs.Line.{IsRising, moments, line_of_kept};
+ghost use Rattle.context_timeline.specs.State.{IsRising, moments, state_of_kept};
 ghost use Rattle.context_timeline.specs.Marks.{healed, mark_before, mark_of_pair};
 ghost use Rattle.context_timeline.specs.Looks.{mark_of};
-ghost use Rattle.context_timeline.specs.Cut.{IsCut, mark_at_cut, stamp_at};
+ghost use Rattle.context_timeline.specs.Cut.{IsPartitionPoint, mark_at_cut, stamp_at};
 
 use crate::look::Look;
 use crate::timed_context::TimedContext;
@@ -13,7 +13,7 @@ use vrt_time::{Moment, Stamp};
 #[inline]
 pub(crate) fn count_not_after(kept: &HeapCircularBuffer<TimedContext>, moment: Moment) -> usize
     requires { IsRising (moments kept.now.items) }
-    ensures { IsCut (moments kept.now.items) moment result }
+    ensures { IsPartitionPoint (moments kept.now.items) moment result }
 {
     let number = kept.len();
     if is_reached(kept, number, moment) {
@@ -31,20 +31,23 @@ pub(crate) fn count_not_after(kept: &HeapCircularBuffer<TimedContext>, moment: M
 fn is_reached(kept: &HeapCircularBuffer<TimedContext>, count: usize, moment: Moment) -> bool
     requires rising { IsRising (moments kept.now.items) }
     requires within { count ≤ length kept.now.items }
-    ensures before { result ≡ true → (k : ℕ) → k < count → slice_index (moments kept.now.items) k ≤ moment }
+    ensures before { result ≡ true → (k : ℕ) → k < count
+        → slice_index (moments kept.now.items) k ≤ moment }
     ensures some { result ≡ false → 0 < count }
-    ensures behind { result ≡ false → (k : ℕ) → count ≤ k + 1 → k < length (moments kept.now.items) → moment < slice_index (moments kept.now.items) k }
+    ensures behind { result ≡ false → (k : ℕ) → count ≤ k + 1 → k < length (moments kept.now.items)
+        → moment < slice_index (moments kept.now.items) k }
 {
     count == 0 || is_not_after(kept, count - 1, moment)
 }
 
-// The same number, where the stamps from this index on are above the moment.
+// How many of the stamps are not above the moment, where those from this index on are above it.
 #[inline(never)]
 fn search_below(kept: &HeapCircularBuffer<TimedContext>, above: usize, moment: Moment) -> usize
     requires rising { IsRising (moments kept.now.items) }
     requires within { above ≤ length kept.now.items }
-    requires behind { (k : ℕ) → above ≤ k → k < length (moments kept.now.items) → moment < slice_index (moments kept.now.items) k }
-    ensures { IsCut (moments kept.now.items) moment result }
+    requires behind { (k : ℕ) → above ≤ k → k < length (moments kept.now.items)
+        → moment < slice_index (moments kept.now.items) k }
+    ensures { IsPartitionPoint (moments kept.now.items) moment result }
 {
     let mut low = 0;
     let mut high = above;
@@ -80,7 +83,8 @@ pub(crate) fn look_and_next(
 ) -> (Look<'_>, Option<Stamp>)
     requires added { length kept.now.items ≤ added }
     requires within { count ≤ length kept.now.items }
-    ensures mark { mark_of result.0 ≡ mark_at_cut (line_of_kept kept.now.capacity added kept.now.items) count }
+    ensures mark { mark_of result.0
+        ≡ mark_at_cut (state_of_kept kept.now.capacity added kept.now.items) count }
     ensures next { result.1 ≡ stamp_at kept.now.items count }
 {
     let Some(after) = kept.get(count) else {

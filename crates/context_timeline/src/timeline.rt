@@ -2,7 +2,7 @@ ghost use Rattle.std.specs.Prelude.{◌≡◌, ℕ, ◌+◌, ◌<◌, ◌≤◌,
 ghost use Rattle.vrt_time.specs.Time.{moment_of};
 ghost use Rattle.difi_context.specs.Context.{IsInGrammar};
 ghost use Rattle.context_timeline.specs.declared.timed_context.TimedContext.{TimedContext};
-ghost use Rattle.context_timeline.specs.Line.{line_of, with_context, timed_context, stamp_in, horizon_of};
+ghost use Rattle.context_timeline.specs.State.{state_of, with_context, timed_context, stamp_in, horizon_of};
 ghost use Rattle.context_timeline.specs.Marks.{mark_in, next_stamp};
 ghost use Rattle.context_timeline.specs.Looks.{mark_of};
 ghost use Rattle.context_timeline.specs.AllContexts.{IsMark};
@@ -29,13 +29,13 @@ pub struct Timeline {
 }
 
 impl Model for Timeline {
-    ghost use Rattle.context_timeline.specs.Line.{Line, IsLine, line_of_kept};
+    ghost use Rattle.context_timeline.specs.State.{TimelineState, IsTimelineState, state_of_kept};
 
-    ghost Value = { Line };
+    ghost Value = { TimelineState };
 
-    ghost view = { λ timeline. line_of_kept timeline.kept.capacity timeline.added timeline.kept.items };
+    ghost view = { λ timeline. state_of_kept timeline.kept.capacity timeline.added timeline.kept.items };
 
-    ghost invariant = { λ timeline. IsLine (line_of_kept timeline.kept.capacity timeline.added timeline.kept.items) };
+    ghost invariant = { λ timeline. IsTimelineState (state_of_kept timeline.kept.capacity timeline.added timeline.kept.items) };
 }
 
 impl Timeline {
@@ -43,7 +43,7 @@ impl Timeline {
     pub fn open(alloc: Global, kept: u32) -> Result<Timeline, NoMemory>
         requires least { 2 ≤ kept }
         requires most { kept ≤ 4096 }
-        ensures { IfOk result (λ timeline. timeline ≡ line_of kept []) }
+        ensures { IfOk result (λ timeline. timeline ≡ state_of kept []) }
     {
         match HeapCircularBuffer::with_capacity(alloc, kept as usize) {
             Ok(kept) => Ok(Timeline { kept, added: 0 }),
@@ -61,8 +61,9 @@ impl Timeline {
         ensures one_more { self.new ≡ with_context self.old (timed_context rec.now lost) }
 
         // Over all contexts that were ever added.
-        ensures history { (contexts : List TimedContext) → self.old ≡ line_of self.old.limit contexts
-            → self.new ≡ line_of self.old.limit (contexts ++ timed_context rec.now lost ∷ []) }
+        ensures history { (contexts : List TimedContext)
+            → self.old ≡ state_of self.old.limit contexts
+            → self.new ≡ state_of self.old.limit (contexts ++ timed_context rec.now lost ∷ []) }
     {
         let context = TimedContext {
             stamp: rec.stamp(),
@@ -79,7 +80,8 @@ impl Timeline {
         ensures mark { result ≡ mark_in self.now moment }
 
         // Over all contexts that were ever added.
-        ensures history { (contexts : List TimedContext) → self.now ≡ line_of self.now.limit contexts
+        ensures history { (contexts : List TimedContext)
+            → self.now ≡ state_of self.now.limit contexts
             → IsMark self.now.limit contexts moment result }
     {
         self.mark_until(moment).0
@@ -91,23 +93,27 @@ impl Timeline {
     pub fn mark_until(&self, moment: Moment) -> (Mark, Option<Stamp>)
         ensures mark { result.0 ≡ mark_in self.now moment }
         ensures until { result.1 ≡ next_stamp self.now.kept moment }
-        ensures same { (later : ℕ) → moment ≤ later → IfSome result.1 (λ stamp. later < moment_of stamp)
+        ensures same { (later : ℕ) → moment ≤ later
+            → IfSome result.1 (λ stamp. later < moment_of stamp)
             → mark_in self.now later ≡ result.0 }
-        ensures history { (contexts : List TimedContext) → self.now ≡ line_of self.now.limit contexts
+        ensures history { (contexts : List TimedContext)
+            → self.now ≡ state_of self.now.limit contexts
             → IsMark self.now.limit contexts moment result.0 }
     {
         let (look, until) = self.look_until(moment);
         (look.mark(), until)
     }
 
-    /// The same as `mark_until`, but the fields of a context in force are lent.
+    /// What `mark_until` tells, with the fields of a context in force lent.
     #[inline]
     pub fn look_until(&self, moment: Moment) -> (Look<'_>, Option<Stamp>)
         ensures mark { mark_of result.0 ≡ mark_in self.now moment }
         ensures until { result.1 ≡ next_stamp self.now.kept moment }
-        ensures same { (later : ℕ) → moment ≤ later → IfSome result.1 (λ stamp. later < moment_of stamp)
+        ensures same { (later : ℕ) → moment ≤ later
+            → IfSome result.1 (λ stamp. later < moment_of stamp)
             → mark_in self.now later ≡ mark_of result.0 }
-        ensures history { (contexts : List TimedContext) → self.now ≡ line_of self.now.limit contexts
+        ensures history { (contexts : List TimedContext)
+            → self.now ≡ state_of self.now.limit contexts
             → IsMark self.now.limit contexts moment (mark_of result.0) }
     {
         let count = count_not_after(&self.kept, moment);

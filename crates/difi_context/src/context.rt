@@ -32,7 +32,8 @@ pub struct ContextRec {
 #[inline(always)]
 pub fn decode(profile: Profile, bytes: &[u8]) -> Result<ContextRec, Place>
     ensures found { IfOk result (λ rec. IsDatagram (IsContext profile) rec bytes.now) }
-    ensures only { (rec : ContextRec) → IsDatagram (IsContext profile) rec bytes.now → result ≡ Ok rec }
+    ensures only { (rec : ContextRec) → IsDatagram (IsContext profile) rec bytes.now
+        → result ≡ Ok rec }
     ensures refused { IfErr result (λ place. IsRefused (IsContext profile) bytes.now place.word) }
 
     // So it can be encoded again, and tells its rate, format and stamp.
@@ -75,7 +76,8 @@ fn check_behind(bytes: &[u8]) -> Result<bool, Place>
 // The change indicator in CIF0, where it names the twelve fields.
 fn changed_of(bytes: &[u8]) -> Result<bool, Place>
     requires { 7 ≤ length (words_of bytes.now) }
-    ensures changed { IfOk result (λ changed. changed ≡ (bits (slice_index (words_of bytes.now) 7) 31 1 == 1)) }
+    ensures changed { IfOk result (λ changed. changed
+        ≡ (bits (slice_index (words_of bytes.now) 7) 31 1 == 1)) }
     ensures right { OnOk result (IsRightTo (words_of bytes.now) 8) }
     ensures refused { IfErr result (λ place. IsWrongAt bytes.now place.word) }
 {

@@ -28,7 +28,8 @@ impl ContextRec {
     /// The payload format of the samples.
     pub fn format(&self) -> PayloadFormat
         requires { IsInGrammar self.now }
-        ensures { IsFormat result (slice_index self.now.fields (place_of Format)) (slice_index self.now.fields (place_of Format + 1)) }
+        ensures { IsFormat result (slice_index self.now.fields (place_of Format))
+            (slice_index self.now.fields (place_of Format + 1)) }
     {
         match PayloadFormat::read(self.fields[FORMAT_WORD], self.fields[FORMAT_WORD + 1]) {
             Ok(format) => format,

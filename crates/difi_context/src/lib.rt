@@ -5,12 +5,12 @@
 mod context;
 #[cfg(test)]
 mod edges;
-mod encoding;
 mod fields;
 mod round_trip;
 #[cfg(test)]
 mod tests;
+mod writing;
 
 pub use crate::context::{ContextRec, decode};
-pub use crate::encoding::encode;
 pub use crate::round_trip::one_to_one;
+pub use crate::writing::encode;

@@ -40,9 +40,11 @@ pub fn decode(profile: Profile, bytes: &[u8]) -> Result<DataRec<'_>, Place>
 // The packet of this prologue, where the datagram has its size.
 fn read_behind(prologue: Prologue, bytes: &[u8]) -> Result<DataRec<'_>, Place>
     requires { 7 ≤ length (words_of bytes.now) }
-    ensures found { IfOk result (λ rec. (rec.prologue ≡ prologue) × (rec.payload.now ≡ drop 28 bytes.now)
+    ensures found { IfOk result (λ rec. (rec.prologue ≡ prologue)
+        × (rec.payload.now ≡ drop 28 bytes.now)
         × (length bytes.now ≡ 4 * prologue.header.size)) }
-    ensures refused { IfErr result (λ place. IsOtherSize prologue.header.size bytes.now place.word) }
+    ensures refused { IfErr result (λ place.
+        IsOtherSize prologue.header.size bytes.now place.word) }
 {
     match check_size(bytes, prologue.header.size) {
         Ok(()) => Ok(DataRec {
@@ -58,11 +60,13 @@ fn read_behind(prologue: Prologue, bytes: &[u8]) -> Result<DataRec<'_>, Place>
 /// The packet is one that words can spell under this profile, and there is room for it. Reading it
 /// again gives the packet, and writing what was read gives the same bytes.
 pub fn encode(profile: Profile, rec: &DataRec<'_>, into: &mut [u8]) -> usize
-    requires spelled { (words : List ℕ) × AreWords words × IsData profile (packet_of rec.now) words }
+    requires spelled { (words : List ℕ) × AreWords words
+        × IsData profile (packet_of rec.now) words }
     requires room { 4 * rec.now.prologue.header.size ≤ length into.old }
     ensures size { result ≡ rec.now.prologue.header.size }
     ensures packet { IsDatagram (IsData profile) (packet_of rec.now) (take (4 * result) into.new) }
-    ensures again { (bytes : List ℕ) → AreBytes bytes → IsDatagram (IsData profile) (packet_of rec.now) bytes
+    ensures again { (bytes : List ℕ) → AreBytes bytes
+        → IsDatagram (IsData profile) (packet_of rec.now) bytes
         → take (4 * result) into.new ≡ bytes }
     ensures behind { drop (4 * result) into.new ≡ drop (4 * result) into.old }
 {

@@ -6,7 +6,7 @@ pub record Supply : Type 0 where
   pub left : List ℕ
   pub piece : ℕ
 
--- the same, the numbers of the calls that fail, how many calls came, and how many of them failed
+-- the bytes that are left, the size of a piece, the numbers of the calls that fail, how many calls came, and how many of them failed
 pub record FailingSupply : Type 0 where
   pub left : List ℕ
   pub piece : ℕ

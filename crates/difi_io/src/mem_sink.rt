@@ -84,13 +84,15 @@ impl Sink for MemSink {
         requires { 0 < length from.now }
         ensures some { IfOk result (λ n. 1 ≤ n) }
         ensures bound { IfOk result (λ n. n ≤ length from.now) }
-        ensures bytes { IfOk result (λ n. Appends (Some self.old.held) (Some self.new.held) (take n from.now)) }
+        ensures bytes { IfOk result (λ n.
+            Appends (Some self.old.held) (Some self.new.held) (take n from.now)) }
         ensures err { OnErr result (Keeps (Some self.old.held) (Some self.new.held)) }
         ensures cause { HasCause self.old.faults self.new.faults result }
 
         // It fails on the listed calls and where the room is full, and on no other.
         ensures fails { IsErr result ↔
-            (Contains self.old.fails (counted self.old.calls) ⊎ (length self.old.held ≡ self.old.room)) }
+            (Contains self.old.fails (counted self.old.calls)
+            ⊎ (length self.old.held ≡ self.old.room)) }
         ensures takes { IfOk result (λ n.
             n ≡ min self.old.piece (min (self.old.room - length self.old.held) (length from.now))) }
 
@@ -98,7 +100,8 @@ impl Sink for MemSink {
         ensures counts { OnOk result
             (self.new ≡ record self.old { held = self.new.held; calls = counted self.old.calls }) }
         ensures counts_fault { OnErr result
-            (self.new ≡ record self.old { calls = counted self.old.calls; faults = counted self.old.faults }) }
+            (self.new
+            ≡ record self.old { calls = counted self.old.calls; faults = counted self.old.faults }) }
     {
         if self.failures.next_is_listed() || self.stored.len() == self.room {
             return Err(self.failures.count_fault());

@@ -32,7 +32,8 @@ impl MemSource {
     /// numbers, from 1 on and 2^64 - 1 from there on, stand in `fails` are to fail.
     pub fn new(bytes: Vec<u8>, piece: usize, fails: Vec<u64>) -> Self
         requires { 1 ≤ piece }
-        ensures { result ≡ record { left = bytes.items; piece = piece; fails = fails.items; calls = 0; faults = 0 } }
+        ensures { result
+            ≡ record { left = bytes.items; piece = piece; fails = fails.items; calls = 0; faults = 0 } }
     {
         MemSource {
             supply: SureSource::new(bytes, piece),
@@ -52,14 +53,16 @@ impl Source for MemSource {
     fn read(&mut self, into: &mut [u8]) -> Result<usize, Failed>
         requires { 0 < length into.old }
         ensures bound { IfOk result (λ n. n ≤ length into.new) }
-        ensures bytes { IfOk result (λ n. Consumes (Some self.old.left) (Some self.new.left) (take n into.new)) }
+        ensures bytes { IfOk result (λ n.
+            Consumes (Some self.old.left) (Some self.new.left) (take n into.new)) }
         ensures end { IfOk result (λ n. n ≡ 0 → IsAtEnd (Some self.new.left)) }
         ensures err { OnErr result (Keeps (Some self.old.left) (Some self.new.left)) }
         ensures cause { HasCause self.old.faults self.new.faults result }
 
         // It fails on the listed calls and on no other.
         ensures fails { IsErr result ↔ Contains self.old.fails (counted self.old.calls) }
-        ensures gives { IfOk result (λ n. n ≡ min self.old.piece (min (length into.old) (length self.old.left))) }
+        ensures gives { IfOk result (λ n. n
+            ≡ min self.old.piece (min (length into.old) (length self.old.left))) }
 
         // What stays as it was.
         ensures behind { IfOk result (λ n. drop n into.new ≡ drop n into.old) }
@@ -67,7 +70,8 @@ impl Source for MemSource {
         ensures counts { OnOk result
             (self.new ≡ record self.old { left = self.new.left; calls = counted self.old.calls }) }
         ensures counts_fault { OnErr result
-            (self.new ≡ record self.old { calls = counted self.old.calls; faults = counted self.old.faults }) }
+            (self.new
+            ≡ record self.old { calls = counted self.old.calls; faults = counted self.old.faults }) }
     {
         if self.failures.next_is_listed() {
             return Err(self.failures.count_fault());

@@ -21,7 +21,8 @@ pub trait Sink {
         requires { 0 < length from.now }
         ensures some { IfOk result (λ n. 1 ≤ n) }
         ensures bound { IfOk result (λ n. n ≤ length from.now) }
-        ensures bytes { IfOk result (λ n. Appends (held self.old) (held self.new) (take n from.now)) }
+        ensures bytes { IfOk result (λ n.
+            Appends (held self.old) (held self.new) (take n from.now)) }
         ensures err { OnErr result (Keeps (held self.old) (held self.new)) }
         ensures cause { HasCause (faults self.old) (faults self.new) result };
 }

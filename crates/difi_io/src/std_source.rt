@@ -49,7 +49,8 @@ impl<R: Read + Drop> Source for StdSource<R> {
         ensures reads { IfOk result (λ n.
             Consumes (R.remaining self.old.inner) (R.remaining self.new.inner) (take n into.new)) }
         ensures reads_end { IfOk result (λ n. n ≡ 0 → IsAtEnd (R.remaining self.new.inner)) }
-        ensures reads_none { OnErr result (Keeps (R.remaining self.old.inner) (R.remaining self.new.inner)) }
+        ensures reads_none { OnErr result
+            (Keeps (R.remaining self.old.inner) (R.remaining self.new.inner)) }
         ensures counts_fault { OnErr result (self.new.faults ≡ counted self.old.faults) }
     {
         match self.reader.read(into) {

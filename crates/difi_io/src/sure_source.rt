@@ -48,14 +48,16 @@ impl Source for SureSource {
     fn read(&mut self, into: &mut [u8]) -> Result<usize, Failed>
         requires { 0 < length into.old }
         ensures bound { IfOk result (λ n. n ≤ length into.new) }
-        ensures bytes { IfOk result (λ n. Consumes (Some self.old.left) (Some self.new.left) (take n into.new)) }
+        ensures bytes { IfOk result (λ n.
+            Consumes (Some self.old.left) (Some self.new.left) (take n into.new)) }
         ensures end { IfOk result (λ n. n ≡ 0 → IsAtEnd (Some self.new.left)) }
         ensures err { OnErr result (Keeps (Some self.old.left) (Some self.new.left)) }
         ensures cause { HasCause 0 0 result }
 
         // It always gives all that it can, and leaves the rest of `into` and the piece.
         ensures sure { IsOk result }
-        ensures gives { IfOk result (λ n. n ≡ min self.old.piece (min (length into.old) (length self.old.left))) }
+        ensures gives { IfOk result (λ n. n
+            ≡ min self.old.piece (min (length into.old) (length self.old.left))) }
         ensures behind { IfOk result (λ n. drop n into.new ≡ drop n into.old) }
         ensures piece { self.new.piece ≡ self.old.piece }
     {

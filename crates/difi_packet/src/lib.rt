@@ -3,15 +3,15 @@
 #![tactic(auto)]
 
 mod classifying;
-mod encoding;
 mod kind;
 mod packet;
 mod round_trip;
 #[cfg(test)]
 mod tests;
+mod writing;
 
 pub use crate::classifying::classify;
-pub use crate::encoding::{encode, size_of};
 pub use crate::kind::{PacketKind, kind_and_stream};
 pub use crate::packet::{Packet, decode};
 pub use crate::round_trip::one_to_one;
+pub use crate::writing::{encode, size_of};

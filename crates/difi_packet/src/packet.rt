@@ -35,7 +35,8 @@ pub enum Packet<'a> {
 /// `Err` at the first word with which no packet of any kind goes on, or at the number of whole words
 /// where they begin a longer one; where a packet stands first and more bytes follow, at its size.
 pub fn decode(profile: Profile, bytes: &[u8]) -> Result<Packet<'_>, Place>
-    ensures found { IfOk result (λ packet. IsDatagram (IsPacket profile) (value_of packet) bytes.now) }
+    ensures found { IfOk result (λ packet.
+        IsDatagram (IsPacket profile) (value_of packet) bytes.now) }
     ensures lent { IfOk result (λ packet. IsLentFrom bytes.now packet) }
     ensures only { (value : PacketValue) → IsDatagram (IsPacket profile) value bytes.now
         → IsOkAnd result (λ packet. value_of packet ≡ value) }
@@ -55,7 +56,8 @@ pub fn decode(profile: Profile, bytes: &[u8]) -> Result<Packet<'_>, Place>
 // The data packet that the datagram is, where its header tells that kind.
 fn read_data(profile: Profile, bytes: &[u8]) -> Result<Packet<'_>, Place>
     requires { IsKind variants.Data (slice_index (words_of bytes.now) 0) }
-    ensures found { IfOk result (λ packet. IsDatagram (IsPacket profile) (value_of packet) bytes.now) }
+    ensures found { IfOk result (λ packet.
+        IsDatagram (IsPacket profile) (value_of packet) bytes.now) }
     ensures lent { IfOk result (λ packet. IsLentFrom bytes.now packet) }
     ensures refused { IfErr result (λ place. IsRefused (IsPacket profile) bytes.now place.word) }
 {
@@ -68,7 +70,8 @@ fn read_data(profile: Profile, bytes: &[u8]) -> Result<Packet<'_>, Place>
 // The context packet that the datagram is, where its header tells that kind.
 fn read_context(profile: Profile, bytes: &[u8]) -> Result<Packet<'_>, Place>
     requires { IsKind variants.Context (slice_index (words_of bytes.now) 0) }
-    ensures found { IfOk result (λ packet. IsDatagram (IsPacket profile) (value_of packet) bytes.now) }
+    ensures found { IfOk result (λ packet.
+        IsDatagram (IsPacket profile) (value_of packet) bytes.now) }
     ensures lent { IfOk result (λ packet. IsLentFrom bytes.now packet) }
     ensures refused { IfErr result (λ place. IsRefused (IsPacket profile) bytes.now place.word) }
 {
@@ -82,7 +85,8 @@ fn read_context(profile: Profile, bytes: &[u8]) -> Result<Packet<'_>, Place>
 #[inline(never)]
 fn read_version(profile: Profile, bytes: &[u8]) -> Result<Packet<'_>, Place>
     requires { IsKind variants.Version (slice_index (words_of bytes.now) 0) }
-    ensures found { IfOk result (λ packet. IsDatagram (IsPacket profile) (value_of packet) bytes.now) }
+    ensures found { IfOk result (λ packet.
+        IsDatagram (IsPacket profile) (value_of packet) bytes.now) }
     ensures lent { IfOk result (λ packet. IsLentFrom bytes.now packet) }
     ensures refused { IfErr result (λ place. IsRefused (IsPacket profile) bytes.now place.word) }
 {
@@ -96,7 +100,8 @@ fn read_version(profile: Profile, bytes: &[u8]) -> Result<Packet<'_>, Place>
 #[inline(never)]
 fn read_control(profile: Profile, bytes: &[u8]) -> Result<Packet<'_>, Place>
     requires { IsKind variants.Control (slice_index (words_of bytes.now) 0) }
-    ensures found { IfOk result (λ packet. IsDatagram (IsPacket profile) (value_of packet) bytes.now) }
+    ensures found { IfOk result (λ packet.
+        IsDatagram (IsPacket profile) (value_of packet) bytes.now) }
     ensures lent { IfOk result (λ packet. IsLentFrom bytes.now packet) }
     ensures refused { IfErr result (λ place. IsRefused (IsPacket profile) bytes.now place.word) }
 {
@@ -110,7 +115,8 @@ fn read_control(profile: Profile, bytes: &[u8]) -> Result<Packet<'_>, Place>
 #[inline(never)]
 fn read_cancel(profile: Profile, bytes: &[u8]) -> Result<Packet<'_>, Place>
     requires { IsKind variants.Cancel (slice_index (words_of bytes.now) 0) }
-    ensures found { IfOk result (λ packet. IsDatagram (IsPacket profile) (value_of packet) bytes.now) }
+    ensures found { IfOk result (λ packet.
+        IsDatagram (IsPacket profile) (value_of packet) bytes.now) }
     ensures lent { IfOk result (λ packet. IsLentFrom bytes.now packet) }
     ensures refused { IfErr result (λ place. IsRefused (IsPacket profile) bytes.now place.word) }
 {
@@ -124,7 +130,8 @@ fn read_cancel(profile: Profile, bytes: &[u8]) -> Result<Packet<'_>, Place>
 #[inline(never)]
 fn read_ack(profile: Profile, bytes: &[u8]) -> Result<Packet<'_>, Place>
     requires { IsKind variants.Ack (slice_index (words_of bytes.now) 0) }
-    ensures found { IfOk result (λ packet. IsDatagram (IsPacket profile) (value_of packet) bytes.now) }
+    ensures found { IfOk result (λ packet.
+        IsDatagram (IsPacket profile) (value_of packet) bytes.now) }
     ensures lent { IfOk result (λ packet. IsLentFrom bytes.now packet) }
     ensures refused { IfErr result (λ place. IsRefused (IsPacket profile) bytes.now place.word) }
 {

@@ -14,20 +14,19 @@ use ack_codec::{Ack, AckReport, AckState, Responses};
 use cam_field::{Cam, Ident};
 use command_codec::{Cancel, Control};
 use command_prologue::CommandPrologue;
-use std::alloc::Global;
 use text_buffer::TextBuffer;
 use vrt_fields::{Field, FieldSet};
 use vrt_words::bits_of;
 
 /// Puts behind the text what a command holds.
-pub(crate) fn push_control(alloc: Global, out: &mut TextBuffer, packet: &Control)
+pub(crate) fn push_control(out: &mut TextBuffer, packet: &Control)
     requires { length out.old + 1400 ≤ 327680 }
     ensures text { out.new ≡ out.old ++ control_details packet.now }
     ensures length { length out.new ≤ length out.old + 1400 }
 {
     push_front(out, &packet.front());
     push_word(out, b"fields ", packet.asked);
-    push_content(alloc, out, &packet.fields);
+    push_content(out, &packet.fields);
 }
 
 /// Puts behind the text what a cancellation holds.
@@ -41,14 +40,14 @@ pub(crate) fn push_cancel(out: &mut TextBuffer, packet: &Cancel)
 }
 
 /// Puts behind the text what an acknowledgement holds.
-pub(crate) fn push_ack(alloc: Global, out: &mut TextBuffer, packet: &Ack)
+pub(crate) fn push_ack(out: &mut TextBuffer, packet: &Ack)
     requires { length out.old + 1400 ≤ 327680 }
     ensures text { out.new ≡ out.old ++ ack_details packet.now }
     ensures length { length out.new ≤ length out.old + 1400 }
 {
     match packet {
         Ack::V(report) | Ack::X(report) => push_report(out, report),
-        Ack::S(state) => push_state(alloc, out, state),
+        Ack::S(state) => push_state(out, state),
     }
 }
 
@@ -71,7 +70,7 @@ fn push_report(out: &mut TextBuffer, report: &AckReport)
 }
 
 // What an answer to a query of the state holds.
-fn push_state(alloc: Global, out: &mut TextBuffer, state: &AckState)
+fn push_state(out: &mut TextBuffer, state: &AckState)
     requires { length out.old + 1400 ≤ 327680 }
     ensures text { out.new ≡ out.old ++ state_details state.now }
     ensures length { length out.new ≤ length out.old + 1400 }
@@ -85,7 +84,7 @@ fn push_state(alloc: Global, out: &mut TextBuffer, state: &AckState)
     };
     push_front(out, &front);
     push_word(out, b"fields ", state.fields.cif0());
-    push_set(alloc, out, &state.fields);
+    push_set(out, &state.fields);
 }
 
 // What packets of the family have in front.
@@ -187,47 +186,47 @@ fn push_word(out: &mut TextBuffer, name: &[u8], word: u32)
 }
 
 // The values of a command, or that it is a query.
-fn push_content(alloc: Global, out: &mut TextBuffer, fields: &Option<FieldSet>)
+fn push_content(out: &mut TextBuffer, fields: &Option<FieldSet>)
     requires { length out.old + 1000 ≤ 327680 }
     ensures text { out.new ≡ out.old ++ content fields.now }
     ensures length { length out.new ≤ length out.old + 1000 }
 {
     match fields {
-        Some(set) => push_set(alloc, out, set),
+        Some(set) => push_set(out, set),
         None => out.push(b"  query\n"),
     }
 }
 
 // A line for each field of a set.
-fn push_set(alloc: Global, out: &mut TextBuffer, set: &FieldSet)
+fn push_set(out: &mut TextBuffer, set: &FieldSet)
     requires { length out.old + 1000 ≤ 327680 }
     ensures text { out.new ≡ out.old ++ set_lines set.now }
     ensures length { length out.new ≤ length out.old + 1000 }
 {
-    push_set_lines(alloc, out, set, &all_fields());
+    push_set_lines(out, set, &all_fields());
 }
 
 // The lines of some fields of a set.
-fn push_set_lines(alloc: Global, out: &mut TextBuffer, set: &FieldSet, fields: &[Field])
+fn push_set_lines(out: &mut TextBuffer, set: &FieldSet, fields: &[Field])
     requires few { length fields.now ≤ 12 }
     requires room { length out.old + 1000 ≤ 327680 }
     ensures text { out.new ≡ out.old ++ flat_map (set_line set.now) fields.now }
     ensures length { length out.new ≤ length out.old + 1000 }
 {
     for field in fields {
-        push_value(alloc, out, *field, set.get(*field));
+        push_value(out, *field, set.get(*field));
     }
 }
 
 // The line of a field, where it has a value.
-fn push_value(alloc: Global, out: &mut TextBuffer, field: Field, value: Option<u64>)
+fn push_value(out: &mut TextBuffer, field: Field, value: Option<u64>)
     requires fits { IfSome value (FitsField field) }
     requires room { length out.old + 83 ≤ 327680 }
     ensures text { out.new ≡ out.old ++ line_if value field }
     ensures length { length out.new ≤ length out.old + 83 }
 {
     if let Some(value) = value {
-        push_field_line(alloc, out, field, value);
+        push_field_line(out, field, value);
     }
 }
 

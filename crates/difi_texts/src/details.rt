@@ -17,37 +17,36 @@ use difi_context::ContextRec;
 use difi_data::DataRec;
 use difi_packet::Packet;
 use difi_version::VersionRec;
-use std::alloc::Global;
 use text_buffer::TextBuffer;
 use vrt_fields::Field;
 use vrt_header::Prologue;
 use vrt_words::bits_of;
 
 /// Puts behind the text what a listing tells of an accepted packet under the line of its frame.
-pub fn push_under(alloc: Global, out: &mut TextBuffer, listing: Listing, packet: &Packet<'_>)
+pub fn push_under(out: &mut TextBuffer, listing: Listing, packet: &Packet<'_>)
     requires { length out.old + 1400 ≤ 327680 }
     ensures text { out.new ≡ out.old ++ under listing (value_of packet.now) }
     ensures length { length out.new ≤ length out.old + 1400 }
 {
     match listing {
         Listing::Check => {}
-        Listing::Show => push_details(alloc, out, packet),
+        Listing::Show => push_details(out, packet),
     }
 }
 
 // All that a packet holds.
-fn push_details(alloc: Global, out: &mut TextBuffer, packet: &Packet<'_>)
+fn push_details(out: &mut TextBuffer, packet: &Packet<'_>)
     requires { length out.old + 1400 ≤ 327680 }
     ensures text { out.new ≡ out.old ++ details (value_of packet.now) }
     ensures length { length out.new ≤ length out.old + 1400 }
 {
     match packet {
         Packet::Data(rec) => push_data(out, rec),
-        Packet::Context(rec) => push_context(alloc, out, rec),
+        Packet::Context(rec) => push_context(out, rec),
         Packet::Version(rec) => push_version(out, rec),
-        Packet::Control(packet) => push_control(alloc, out, packet),
+        Packet::Control(packet) => push_control(out, packet),
         Packet::Cancel(packet) => push_cancel(out, packet),
-        Packet::Ack(packet) => push_ack(alloc, out, packet),
+        Packet::Ack(packet) => push_ack(out, packet),
     }
 }
 
@@ -61,14 +60,14 @@ fn push_data(out: &mut TextBuffer, rec: &DataRec<'_>)
     push_number(out, b"payload words ", (rec.payload.len() / 4) as u64);
 }
 
-fn push_context(alloc: Global, out: &mut TextBuffer, rec: &ContextRec)
+fn push_context(out: &mut TextBuffer, rec: &ContextRec)
     requires { length out.old + 1400 ≤ 327680 }
     ensures text { out.new ≡ out.old ++ context_details rec.now }
     ensures length { length out.new ≤ length out.old + 1400 }
 {
     push_common(out, &rec.prologue);
     push_changes(out, rec.changed);
-    push_fields(alloc, out, rec, &all_fields());
+    push_fields(out, rec, &all_fields());
 }
 
 pub(crate) fn push_version(out: &mut TextBuffer, rec: &VersionRec)
@@ -137,36 +136,36 @@ fn push_changes(out: &mut TextBuffer, changed: bool)
 }
 
 // The lines of some fields of a context.
-fn push_fields(alloc: Global, out: &mut TextBuffer, rec: &ContextRec, fields: &[Field])
+fn push_fields(out: &mut TextBuffer, rec: &ContextRec, fields: &[Field])
     requires few { length fields.now ≤ 12 }
     requires room { length out.old + 1000 ≤ 327680 }
     ensures text { out.new ≡ out.old ++ flat_map (field_line rec.now) fields.now }
     ensures length { length out.new ≤ length out.old + 1000 }
 {
     for field in fields {
-        push_field(alloc, out, &rec.fields, *field, rec.field(*field));
+        push_field(out, &rec.fields, *field, rec.field(*field));
     }
 }
 
 // The line of a field with this value among the words of all.
-fn push_field(alloc: Global, out: &mut TextBuffer, words: &[u32], field: Field, value: u64)
+fn push_field(out: &mut TextBuffer, words: &[u32], field: Field, value: u64)
     requires value { value ≡ field_of words.now field }
     requires room { length out.old + 83 ≤ 327680 }
     ensures text { out.new ≡ out.old ++ indented (field_text field value) }
     ensures length { length out.new ≤ length out.old + 83 }
 {
-    push_field_line(alloc, out, field, value);
+    push_field_line(out, field, value);
 }
 
 /// Puts the line of a field with this value behind the text.
-pub(crate) fn push_field_line(alloc: Global, out: &mut TextBuffer, field: Field, value: u64)
+pub(crate) fn push_field_line(out: &mut TextBuffer, field: Field, value: u64)
     requires room { length out.old + 83 ≤ 327680 }
     requires fits { width_of field ≡ 1 → value < 2 ^ 32 }
     ensures text { out.new ≡ out.old ++ indented (field_text field value) }
     ensures length { length out.new ≤ length out.old + 83 }
 {
     out.push(b"  ");
-    out.push_field(alloc, field, value);
+    out.push_field(field, value);
     out.push(b"\n");
 }
 

@@ -102,7 +102,7 @@ fn a_command_is_shown_with_its_fields(rt: HostRuntime) -> Result<(), NoMemory> {
         asked: 0x00A0_0000,
         fields: Some(set),
     };
-    push_control(rt.alloc(), &mut out, &packet);
+    push_control(&mut out, &packet);
     let text =
         b"  time none\n  count 0\n  cam 01080000\n  message 00000001\n  controllee none\n  controller none\n  fields 00A00000\n  gain 1536/128 dB 0/128 dB\n  sample rate 1 Hz + 0/1048576\n";
     assert_eq!(rt; out.as_slice(), text.as_slice());
@@ -125,7 +125,7 @@ fn a_query_is_shown_with_its_stamp(rt: HostRuntime) -> Result<(), NoMemory> {
         asked: 0x0020_0000,
         fields: None,
     };
-    push_control(rt.alloc(), &mut out, &packet);
+    push_control(&mut out, &packet);
     let text =
         b"  time 1700000000 s 000000000005 ps\n  count 15\n  cam 00040000\n  message FEDCBA98\n  controllee none\n  controller none\n  fields 00200000\n  query\n";
     assert_eq!(rt; out.as_slice(), text.as_slice());
@@ -144,7 +144,7 @@ fn a_command_of_no_field_is_no_query(rt: HostRuntime) -> Result<(), NoMemory> {
         asked: 0,
         fields: Some(FieldSet::empty()),
     };
-    push_control(rt.alloc(), &mut out, &packet);
+    push_control(&mut out, &packet);
     let text =
         b"  time none\n  count 0\n  cam 00000000\n  message 00000002\n  controllee none\n  controller none\n  fields 00000000\n";
     assert_eq!(rt; out.as_slice(), text.as_slice());
@@ -194,7 +194,7 @@ fn a_validation_is_shown_with_warnings_and_errors(rt: HostRuntime) -> Result<(),
         cif0: 0x4000_8000,
         words: [1, 0, 0, 0, 0, 0, 0, 0, 0, 0, 0, 0xFFFF_FFFF],
     });
-    push_ack(rt.alloc(), &mut out, &Ack::V(report));
+    push_ack(&mut out, &Ack::V(report));
     let text =
         b"  time none\n  count 0\n  cam 01130000\n  message 00000007\n  controllee none\n  controller none\n  warnings 00A00000\n  00800000 00000012\n  00200000 80000000\n  errors 40008000\n  40000000 00000001\n  00008000 FFFFFFFF\n";
     assert_eq!(rt; out.as_slice(), text.as_slice());
@@ -210,7 +210,7 @@ fn an_execution_without_warnings_and_errors_is_shown(rt: HostRuntime) -> Result<
         executed: true,
         ..SILENT
     });
-    push_ack(rt.alloc(), &mut out, &Ack::X(report));
+    push_ack(&mut out, &Ack::X(report));
     let text =
         b"  time none\n  count 0\n  cam 01080400\n  message 00000007\n  controllee none\n  controller none\n";
     assert_eq!(rt; out.as_slice(), text.as_slice());
@@ -221,7 +221,7 @@ fn an_execution_without_warnings_and_errors_is_shown(rt: HostRuntime) -> Result<
 fn an_answer_to_a_query_is_shown_with_its_fields(rt: HostRuntime) -> Result<(), NoMemory> {
     let mut out = TextBuffer::open(rt.alloc())?;
     let state = state_of(Cam { s: true, ..SILENT });
-    push_ack(rt.alloc(), &mut out, &Ack::S(state));
+    push_ack(&mut out, &Ack::S(state));
     let text =
         b"  time none\n  count 0\n  cam 00040000\n  message 00000003\n  controllee none\n  controller none\n  fields 00200000\n  sample rate 1 Hz + 0/1048576\n";
     assert_eq!(rt; out.as_slice(), text.as_slice());
@@ -241,7 +241,7 @@ fn a_data_packet_is_shown_with_its_pad(rt: HostRuntime) -> Result<(), NoMemory> 
         prologue,
         payload: &[1, 2, 3, 4, 5, 6, 7, 8],
     };
-    push_under(rt.alloc(), &mut out, Listing::Show, &Packet::Data(packet));
+    push_under(&mut out, Listing::Show, &Packet::Data(packet));
     let text = b"  time 1700000000 s 000000000000 ps\n  count 7\n  pad 31\n  payload words 2\n";
     assert_eq!(rt; out.as_slice(), text.as_slice());
     Ok(())
@@ -286,7 +286,7 @@ fn nothing_stands_under_a_line_of_check(rt: HostRuntime) -> Result<(), NoMemory>
         prologue: prologue_of(Kind::Data),
         payload: &[1, 2, 3, 4],
     };
-    push_under(rt.alloc(), &mut out, Listing::Check, &Packet::Data(packet));
+    push_under(&mut out, Listing::Check, &Packet::Data(packet));
     assert!(rt; out.as_slice().is_empty());
     Ok(())
 }

@@ -36,7 +36,8 @@ pub struct VersionRec {
 /// where they begin a longer one; where a packet stands first and more bytes follow, at its size.
 pub fn decode(profile: Profile, bytes: &[u8]) -> Result<VersionRec, Place>
     ensures found { IfOk result (λ rec. IsDatagram (IsVersion profile) rec bytes.now) }
-    ensures only { (rec : VersionRec) → IsDatagram (IsVersion profile) rec bytes.now → result ≡ Ok rec }
+    ensures only { (rec : VersionRec) → IsDatagram (IsVersion profile) rec bytes.now
+        → result ≡ Ok rec }
     ensures refused { IfErr result (λ place. IsRefused (IsVersion profile) bytes.now place.word) }
 {
     match read_prologue_of(profile, Kind::Version, bytes) {

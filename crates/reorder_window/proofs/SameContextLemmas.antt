@@ -63,7 +63,7 @@ stamps_decide a b =
     let parts = both (a.seconds == b.seconds) (a.picos == b.picos) (Decides-eqb a.seconds b.seconds) (Decides-eqb a.picos b.picos) in
     (λ h. let p = parts.0 h in same_stamp a b p.0 p.1, λ e. parts.1 (ap (λ (x : TimeStamp). x.seconds) e, ap (λ (x : TimeStamp). x.picos) e))
 
--- the same of stamps that may be there
+-- the equality of stamps that may be there is decided
 options_decide : (a b : Option TimeStamp) → Decides (option_eq stamps.eq-value.it a b) (a ≡ b)
 options_decide None None = (λ h. refl, λ e. refl)
 options_decide None (Some b) = (λ h. cc, λ e. cc)

@@ -10,21 +10,27 @@ ghost use Rattle.reorder_window.specs.declared.entry.Entry.{Entry};
 /// that arrives later for the first time.
 #[inline]
 pub fn first_arrivals_are_accepted<T>()
-    ensures accepted { (start total size : ℕ) (packet : ℕ → Entry T) (order before after : List ℕ) (k : ℕ)
+    ensures accepted { (start total size : ℕ) (packet : ℕ → Entry T) (order before after : List ℕ)
+        (k : ℕ)
         → IsSent start total packet → IsDelivery size total order
         → order ≡ before ++ k ∷ after → occurs k before ≡ false
         → IsTrue (is_accepted size (accepted size (map packet before)) (packet k)) }
-    ensures answered { (start total size : ℕ) (packet : ℕ → Entry T) (order before after : List ℕ) (k : ℕ) (same : T → T → Bool)
+    ensures answered { (start total size : ℕ) (packet : ℕ → Entry T) (order before after : List ℕ)
+        (k : ℕ) (same : T → T → Bool)
         → IsSent start total packet → IsDelivery size total order
         → order ≡ before ++ k ∷ after → occurs k before ≡ false
-        → answer same size (map packet before) (packet k) ≡ answer_accepted (released size (map packet before ++ packet k ∷ []) 0) }
+        → answer same size (map packet before) (packet k)
+        ≡ answer_accepted (released size (map packet before ++ packet k ∷ []) 0) }
     ensures once { (start total size : ℕ) (packet : ℕ → Entry T) (order before later : List ℕ)
         → IsSent start total packet → IsDelivery size total order → order ≡ before ++ later
-        → (numbers : List ℕ) × (accepted size (map packet before) ≡ map packet numbers) × AreNumbersOf before numbers }
-    ensures below { (start total size : ℕ) (packet : ℕ → Entry T) (order before later : List ℕ) (k : ℕ)
+        → (numbers : List ℕ) × (accepted size (map packet before) ≡ map packet numbers)
+        × AreNumbersOf before numbers }
+    ensures below { (start total size : ℕ) (packet : ℕ → Entry T) (order before later : List ℕ)
+        (k : ℕ)
         → IsSent start total packet → IsDelivery size total order
         → order ≡ before ++ later → occurs k before ≡ false → occurs k later ≡ true
-        → (numbers : List ℕ) × (released size (map packet before) 0 ≡ map packet numbers) × AreLess k numbers }
+        → (numbers : List ℕ) × (released size (map packet before) 0 ≡ map packet numbers)
+        × AreLess k numbers }
 {}
 
 /// A law that a proof can cite. Of a delivery within the size of a window, by one list of numbers:

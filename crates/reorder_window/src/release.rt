@@ -24,9 +24,11 @@ pub(crate) fn take_least<T>(
     last: &mut Option<Last>,
 ) -> Option<(Stamp, u8, T)>
     ensures least { IfSome result (IsGiven held.old.items last.old held.new.items last.new) }
-    ensures none { IfNone result ((held.old.items ≡ []) × (held.new.items ≡ []) × (last.new ≡ last.old)) }
+    ensures none { IfNone result ((held.old.items ≡ []) × (held.new.items ≡ [])
+        × (last.new ≡ last.old)) }
     ensures room { deque_capacity held.new ≡ deque_capacity held.old }
-    ensures counted { deque_len held.old ≡ length held.old.items → deque_len held.new ≡ length held.new.items }
+    ensures counted { deque_len held.old ≡ length held.old.items
+        → deque_len held.new ≡ length held.new.items }
     ensures fewer { deque_len held.new ≤ deque_len held.old }
     ensures one_less { 0 < deque_len held.old → deque_len held.new + 1 ≡ deque_len held.old }
 {
@@ -66,13 +68,15 @@ pub(crate) fn accept<T>(
     place: usize,
     packet: Entry<T>,
 ) -> Arrival<T>
-    requires room { HoldingFits (length held.old.items) (deque_len held.old) size (deque_capacity held.old) }
+    requires room { HoldingFits (length held.old.items) (deque_len held.old) size
+        (deque_capacity held.old) }
     requires among { place ≤ deque_len held.old }
     ensures kept { deque_len held.old < size
         → IsKept (insert held.old.items place packet) last.old held.new.items last.new result }
     ensures released { size ≤ deque_len held.old
         → IsReleased (insert held.old.items place packet) last.old held.new.items last.new result }
-    ensures room { HoldingFits (length held.new.items) (deque_len held.new) size (deque_capacity held.new) }
+    ensures room { HoldingFits (length held.new.items) (deque_len held.new) size
+        (deque_capacity held.new) }
 {
     put_at(held, place, packet);
     if held.len() <= size as usize {

@@ -44,8 +44,9 @@ impl<T> Window<T> {
         ensures stands { IfOk result (λ window. StandsFor window [] 0) }
         ensures undrained { IfOk result (λ window. IsUndrained window) }
 
-        // The same, by what the window keeps.
-        ensures empty { IfOk result (λ window. window ≡ record { size = size; held = []; last = None }) }
+        // By what the window keeps, and not by its arrivals.
+        ensures empty { IfOk result (λ window. window
+            ≡ record { size = size; held = []; last = None }) }
     {
         match VecDeque::with_capacity(alloc, size as usize + 1) {
             Ok(held) => Ok(Window {
@@ -61,14 +62,18 @@ impl<T> Window<T> {
     /// exactly where nothing is held.
     pub fn drain_one(&mut self) -> Option<(Stamp, u8, T)>
         // What is given is the next of the releases, and the window stands for one draining call more.
-        ensures given { (arrivals : List (Entry T)) (drained : ℕ) → StandsFor self.old arrivals drained → IfSome result
-            (λ given. releases self.old.size arrivals (drained + 1) ≡ releases self.old.size arrivals drained ++ given ∷ []) }
-        ensures stands { (arrivals : List (Entry T)) (drained : ℕ) → StandsFor self.old arrivals drained
+        ensures given { (arrivals : List (Entry T)) (drained : ℕ)
+            → StandsFor self.old arrivals drained → IfSome result
+            (λ given. releases self.old.size arrivals (drained + 1)
+            ≡ releases self.old.size arrivals drained ++ given ∷ []) }
+        ensures stands { (arrivals : List (Entry T)) (drained : ℕ)
+            → StandsFor self.old arrivals drained
             → OnSome result (StandsFor self.new arrivals (drained + 1)) }
         ensures size { self.new.size ≡ self.old.size }
 
-        // The same, by what the window keeps.
-        ensures least { IfSome result (IsGiven self.old.held self.old.last self.new.held self.new.last) }
+        // By what the window keeps, and not by its arrivals.
+        ensures least { IfSome result
+            (IsGiven self.old.held self.old.last self.new.held self.new.last) }
         ensures none { IfNone result (self.old.held ≡ []) }
         ensures same { IfNone result (self.new ≡ self.old) }
     {
@@ -84,11 +89,15 @@ impl<T: HeldItem> Window<T> {
 
         // The answer is the one that is defined, and the window stands for the arrivals with this one.
         ensures answer { (arrivals : List (Entry T)) → StandsFor self.old arrivals 0
-            → result ≡ answer T.is_same self.old.size arrivals (record { stamp = stamp; count = count; item = item }) }
+            → result
+            ≡ answer T.is_same self.old.size arrivals
+            (record { stamp = stamp; count = count; item = item }) }
         ensures stands { (arrivals : List (Entry T)) → StandsFor self.old arrivals 0
-            → StandsFor self.new (arrivals ++ record { stamp = stamp; count = count; item = item } ∷ []) 0 }
+            → StandsFor self.new (arrivals
+            ++ record { stamp = stamp; count = count; item = item } ∷ []) 0 }
         ensures given { (arrivals : List (Entry T)) → StandsFor self.old arrivals 0
-            → releases self.old.size (arrivals ++ record { stamp = stamp; count = count; item = item } ∷ []) 0
+            → releases self.old.size (arrivals
+            ++ record { stamp = stamp; count = count; item = item } ∷ []) 0
             ≡ releases self.old.size arrivals 0 ++ released_by result }
         ensures undrained { IsUndrained self.new }
         ensures size { self.new.size ≡ self.old.size }

@@ -14,8 +14,8 @@ use Rattle.vrt_header.specs.declared.header.Kind.TheVariants.{Data}
 use Rattle.vrt_header.proofs.KindLaws.{seven_words, timed_of_kind}
 use Rattle.difi_context.specs.declared.context.ContextRec.{ContextRec}
 use Rattle.context_timeline.specs.declared.timed_context.TimedContext.{TimedContext}
-use Rattle.context_timeline.specs.Line.{Line, line_of, horizon_of, stamp_in}
-use Rattle.context_timeline.proofs.LineLaws.{line_of-push, horizon_of-line_of}
+use Rattle.context_timeline.specs.State.{TimelineState, state_of, horizon_of, stamp_in}
+use Rattle.context_timeline.proofs.StateLaws.{state_of-push, horizon_of-state_of}
 use Rattle.reorder_window.specs.declared.entry.Entry.{Entry}
 use Rattle.reorder_window.specs.State as window
 use Rattle.reorder_window.specs.State.{Holding, IsUndrained}
@@ -37,7 +37,7 @@ use Rattle.sample_binder.proofs.ArrivalLemmas.{accepted-one, behind-append, newe
 -- ---- opening
 
 abbrev opened_state : Limits → State
-opened_state limits = record { pending = limits.pending; line = line_of limits.kept []; queue = []; leaving = None; ended = false }
+opened_state limits = record { pending = limits.pending; line = state_of limits.kept []; queue = []; leaving = None; ended = false }
 
 opened_queue : (limits : Limits) → queue.StandsFor (opened_state limits) limits [] 0
 opened_queue limits = record {
@@ -134,7 +134,7 @@ above_rest stamp (y ∷ rest) below entries =
 
 -- a context that is released may be added to the timeline of those before it
 pub later_of : (kept size : ℕ) (arrivals : List (Entry ContextRec)) (drained : ℕ) (before : List (TimeStamp × ℕ × ContextRec)) (given : TimeStamp × ℕ × ContextRec) → 0 < kept
-    → AllByRecursion IsContextEntry arrivals → AreFalling (accepted size arrivals) → releases size arrivals drained ≡ before ++ given ∷ [] → IsLater (line_of kept (map released_context before)) given.2
+    → AllByRecursion IsContextEntry arrivals → AreFalling (accepted size arrivals) → releases size arrivals drained ≡ before ++ given ∷ [] → IsLater (state_of kept (map released_context before)) given.2
 later_of kept size arrivals drained before given some entries falling e =
     let n = number_held size arrivals drained in
     let xs = drop n (accepted size arrivals) in
@@ -146,31 +146,31 @@ later_of kept size arrivals drained before given some entries falling e =
     subst (AllByRecursion IsContextEntry) h.2 (each-drop IsContextEntry n (accepted size arrivals) (every-accepted IsContextEntry size arrivals entries)) in
     let item : x.item ≡ given.2 = ap (λ (r : TimeStamp × ℕ × ContextRec). r.2) h.4 in
     let above = above_rest x.stamp rest falls.0 each.1 in
-    let above_before : IfSome (horizon_of (line_of kept (map released_context before))) (λ h. moment_of h < moment_of x.stamp) =
-    subst (λ (o : Option TimeStamp). IfSome o (λ h. moment_of h < moment_of x.stamp)) (sym (horizon_of-line_of kept (map released_context before) some))
+    let above_before : IfSome (horizon_of (state_of kept (map released_context before))) (λ h. moment_of h < moment_of x.stamp) =
+    subst (λ (o : Option TimeStamp). IfSome o (λ h. moment_of h < moment_of x.stamp)) (sym (horizon_of-state_of kept (map released_context before) some))
     (subst (λ (rs : List (TimeStamp × ℕ × ContextRec)). IfSome (option_map (λ context. context.stamp) (slice_get (map released_context rs) (length (map released_context rs) - 1))) (λ h. moment_of h < moment_of x.stamp)) h.3 above) in
     let stamp : x.stamp ≡ stamp_in given.2.prologue.stamp = each.0.stamp ∙ ap (λ (r : ContextRec). stamp_in r.prologue.stamp) item in
     record {
       grammar = subst IsInGrammar item each.0.grammar;
-      above = subst (λ (s : TimeStamp). IfSome (horizon_of (line_of kept (map released_context before))) (λ h. moment_of h < moment_of s)) stamp above_before;
+      above = subst (λ (s : TimeStamp). IfSome (horizon_of (state_of kept (map released_context before))) (λ h. moment_of h < moment_of s)) stamp above_before;
     }
 
 -- and the timeline is then that of all
 pub line_with : (kept : ℕ) (before : List (TimeStamp × ℕ × ContextRec)) (released : Option (TimeStamp × ℕ × ContextRec))
-    → with_released (line_of kept (map released_context before)) released ≡ line_of kept (map released_context (before ++ released_list released))
-line_with kept before None = ap (λ rs. line_of kept (map released_context rs)) (sym (append-nil before))
+    → with_released (state_of kept (map released_context before)) released ≡ state_of kept (map released_context (before ++ released_list released))
+line_with kept before None = ap (λ rs. state_of kept (map released_context rs)) (sym (append-nil before))
 line_with kept before (Some given) =
-    line_of-push kept (map released_context before) (released_context given) ∙ ap (line_of kept) (sym (map-append released_context before (given ∷ [])))
+    state_of-push kept (map released_context before) (released_context given) ∙ ap (state_of kept) (sym (map-append released_context before (given ∷ [])))
 
 every-push : {X : Type 0} (P : X → Type 0) (xs : List X) (x : X) → AllByRecursion P xs → P x → AllByRecursion P (xs ++ x ∷ [])
 every-push P [] x h p = (p, tt)
 every-push P (y ∷ xs) x h p = (h.0, every-push P xs x h.1 p)
 
 -- no more contexts were added than were taken
-pub added_within : (kept given : ℕ) (holding : Holding ContextRec) (line : Line) (told : Bool) → AreContextsSeen kept given holding line told → line.added ≤ given
+pub added_within : (kept given : ℕ) (holding : Holding ContextRec) (line : TimelineState) (told : Bool) → AreContextsSeen kept given holding line told → line.added ≤ given
 added_within kept given holding line told h =
     let rs = releases holding.size h.arrivals h.drained in
-    omega (arith, ap (λ (l : Line). l.added) h.line_is, length-map rs released_context, releases-within holding.size h.arrivals h.drained, h.few)
+    omega (arith, ap (λ (l : TimelineState). l.added) h.line_is, length-map rs released_context, releases-within holding.size h.arrivals h.drained, h.few)
 
 -- ---- an arrival
 
@@ -182,15 +182,15 @@ err_same : {R E : Type 0} (result : Result R E) (e : E) (P : Type 0) → result 
 err_same (Ok r) e P f h = absurd (cc)
 err_same (Err d) e P f h = h
 
-module _ (same : ContextRec → ContextRec → Bool) (kept given : ℕ) (old new : Holding ContextRec) (line : Line) (told : Bool) (rec : ContextRec)
+module _ (same : ContextRec → ContextRec → Bool) (kept given : ℕ) (old new : Holding ContextRec) (line : TimelineState) (told : Bool) (rec : ContextRec)
     (result : Result (Option (TimeStamp × ℕ × ContextRec)) (Turned × ContextRec)) (seen : AreContextsSeen kept given old line told) (off : told ≡ false)
     (takes : (arrivals : List (Entry ContextRec)) → window.StandsFor old arrivals 0 → Takes same old new arrivals (context_entry rec) result) (size : new.size ≡ old.size)
     (grammar : IsInGrammar rec) where
   context_taken : Takes same old new seen.arrivals (context_entry rec) result
   context_taken = takes seen.arrivals (seen_now old seen.arrivals seen.drained told seen.stands seen.undrained off)
 
-  line_now : line ≡ line_of kept (map released_context (releases old.size seen.arrivals 0))
-  line_now = seen.line_is ∙ ap (λ d. line_of kept (map released_context (releases old.size seen.arrivals d))) (seen.undrained off)
+  line_now : line ≡ state_of kept (map released_context (releases old.size seen.arrivals 0))
+  line_now = seen.line_is ∙ ap (λ d. state_of kept (map released_context (releases old.size seen.arrivals d))) (seen.undrained off)
 
   context_entries : AllByRecursion IsContextEntry (seen.arrivals ++ context_entry rec ∷ [])
   context_entries = every-push IsContextEntry seen.arrivals (context_entry rec) seen.entries (record { stamp = refl; grammar = grammar })
@@ -204,7 +204,7 @@ module _ (same : ContextRec → ContextRec → Bool) (kept given : ℕ) (old new
       → releases old.size (seen.arrivals ++ context_entry rec ∷ []) 0 ≡ releases old.size seen.arrivals 0 ++ released_list released → IfSome released (λ r. IsLater line r.2)
   later_some some falling None e = tt
   later_some some falling (Some r) e =
-      subst (λ (l : Line). IsLater l r.2) (sym line_now)
+      subst (λ (l : TimelineState). IsLater l r.2) (sym line_now)
       (later_of kept old.size (seen.arrivals ++ context_entry rec ∷ []) 0 (releases old.size seen.arrivals 0) r some context_entries (falling old.size (seen.arrivals ++ context_entry rec ∷ [])) e)
 
   -- the context that it releases may be added
@@ -222,8 +222,8 @@ module _ (same : ContextRec → ContextRec → Bool) (kept given : ℕ) (old new
         stands = context_taken.stands;
         undrained = λ h. refl;
         entries = context_entries;
-        line_is = ap (λ (l : Line). with_released l released) line_now ∙ line_with kept (releases old.size seen.arrivals 0) released
-            ∙ ap (λ rs. line_of kept (map released_context rs)) (sym (given_by released e)) ∙ ap (λ n. line_of kept (map released_context (releases n all 0))) (sym size);
+        line_is = ap (λ (l : TimelineState). with_released l released) line_now ∙ line_with kept (releases old.size seen.arrivals 0) released
+            ∙ ap (λ rs. state_of kept (map released_context rs)) (sym (given_by released e)) ∙ ap (λ n. state_of kept (map released_context (releases n all 0))) (sym size);
         few = omega (arith, seen.few, accepted-one old.size seen.arrivals (context_entry rec), ap (λ n. length (accepted n all)) size);
       }
 
@@ -292,7 +292,7 @@ bound_context old h off few new state released e size seen = record {
   data_size = h.data_size;
   pending = ap (λ (s : State). s.pending) e ∙ h.pending;
   few = omega arith;
-  seen = record { contexts_seen = subst (λ (l : Line). AreContextsSeen old.limits.kept (old.given + 1) new l old.told) (sym (ap (λ (s : State). s.line) e)) seen; packets_seen = h.seen.packets_seen };
+  seen = record { contexts_seen = subst (λ (l : TimelineState). AreContextsSeen old.limits.kept (old.given + 1) new l old.told) (sym (ap (λ (s : State). s.line) e)) seen; packets_seen = h.seen.packets_seen };
   running = λ f. ap (λ (s : State). s.ended) e ∙ h.running f;
   at_rest = λ f g. not_both old.told (state.ended ≡ true) off f;
 }
@@ -311,7 +311,7 @@ bound_data old h off few new state queue e size seen =
       data_size = size ∙ h.data_size;
       pending = ap (λ (s : State). s.pending) e ∙ h.pending;
       few = omega arith;
-      seen = record { contexts_seen = subst (λ (l : Line). AreContextsSeen old.limits.kept (old.given + 1) old.contexts l old.told) (sym (ap (λ (s : State). s.line) e)) contexts; packets_seen = seen };
+      seen = record { contexts_seen = subst (λ (l : TimelineState). AreContextsSeen old.limits.kept (old.given + 1) old.contexts l old.told) (sym (ap (λ (s : State). s.line) e)) contexts; packets_seen = seen };
       running = λ f. ap (λ (s : State). s.ended) e ∙ h.running f;
       at_rest = λ f g. not_both old.told (state.ended ≡ true) off f;
     }
@@ -451,7 +451,7 @@ module _ (same : Buffer → Buffer → Bool) (limits : Limits) (old new : Holdin
       }
 
 -- while the end was not told, nothing was drained from a window
-pub undrained_contexts : (kept given : ℕ) (holding : Holding ContextRec) (line : Line) (told : Bool) → AreContextsSeen kept given holding line told → told ≡ false → IsUndrained holding
+pub undrained_contexts : (kept given : ℕ) (holding : Holding ContextRec) (line : TimelineState) (told : Bool) → AreContextsSeen kept given holding line told → told ≡ false → IsUndrained holding
 undrained_contexts kept given holding line told seen untold = record {
   arrivals = seen.arrivals;
   stands = subst (λ n. window.StandsFor holding seen.arrivals n) (seen.undrained untold) seen.stands;

@@ -4,7 +4,7 @@ use Rattle.std.proofs.lemmas.List.{append-nil}
 use Rattle.vrt_words.specs.Buffer.{Buffer}
 use Rattle.vrt_time.specs.Time.{TimeStamp}
 use Rattle.difi_context.specs.declared.context.ContextRec.{ContextRec}
-use Rattle.context_timeline.specs.Line.{Line, line_of, with_context}
+use Rattle.context_timeline.specs.State.{TimelineState, state_of, with_context}
 use Rattle.reorder_window.specs.declared.entry.Entry.{Entry}
 use Rattle.reorder_window.specs.State as window
 use Rattle.reorder_window.specs.State.{Holding}
@@ -24,13 +24,13 @@ use Rattle.sample_binder.proofs.BinderLemmas.{later_of, line_with, data_of}
 
 -- ---- contexts
 
-module _ (old new : Holding ContextRec) (line : Line) (given : TimeStamp × ℕ × ContextRec) (size : new.size ≡ old.size)
+module _ (old new : Holding ContextRec) (line : TimelineState) (given : TimeStamp × ℕ × ContextRec) (size : new.size ≡ old.size)
     (gives : (arrivals : List (Entry ContextRec)) (drained : ℕ) → window.StandsFor old arrivals drained → releases old.size arrivals (drained + 1) ≡ releases old.size arrivals drained ++ given ∷ [])
     (stands : (arrivals : List (Entry ContextRec)) (drained : ℕ) → window.StandsFor old arrivals drained → window.StandsFor new arrivals (drained + 1)) where
   pub later_drained : MayDrain old line → ((n : ℕ) (arrivals : List (Entry ContextRec)) → AreFalling (accepted n arrivals)) → IsLater line given.2
   later_drained h falling =
       let s = h.seen in
-      subst (λ (l : Line). IsLater l given.2) (sym s.line_is)
+      subst (λ (l : TimelineState). IsLater l given.2) (sym s.line_is)
       (later_of h.kept old.size s.arrivals (s.drained + 1) (releases old.size s.arrivals s.drained) given h.some s.entries (falling old.size s.arrivals) (gives s.arrivals s.drained s.stands))
 
   pub seen_drained : (kept count : ℕ) → AreContextsSeen kept count old line true → AreContextsSeen kept count new (with_context line (released_context given)) true
@@ -40,8 +40,8 @@ module _ (old new : Holding ContextRec) (line : Line) (given : TimeStamp × ℕ 
     stands = stands s.arrivals s.drained s.stands;
     undrained = λ e. absurd (cc);
     entries = s.entries;
-    line_is = ap (λ (l : Line). with_context l (released_context given)) s.line_is ∙ line_with kept (releases old.size s.arrivals s.drained) (Some given)
-        ∙ ap (λ rs. line_of kept (map released_context rs)) (sym (gives s.arrivals s.drained s.stands)) ∙ ap (λ n. line_of kept (map released_context (releases n s.arrivals (s.drained + 1)))) (sym size);
+    line_is = ap (λ (l : TimelineState). with_context l (released_context given)) s.line_is ∙ line_with kept (releases old.size s.arrivals s.drained) (Some given)
+        ∙ ap (λ rs. state_of kept (map released_context rs)) (sym (gives s.arrivals s.drained s.stands)) ∙ ap (λ n. state_of kept (map released_context (releases n s.arrivals (s.drained + 1)))) (sym size);
     few = omega (arith, s.few, ap (λ n. length (accepted n s.arrivals)) size);
   }
 

@@ -4,7 +4,7 @@ use Rattle.vrt_time.specs.Time.{moment_of, capture_at}
 use Rattle.context_timeline.specs.declared.timed_context.TimedContext.{TimedContext}
 use Rattle.context_timeline.specs.declared.mark.Mark.{Mark}
 use Rattle.context_timeline.specs.declared.mark.Mark.TheVariants as mark
-use Rattle.context_timeline.specs.Line.{Line, IsLine, horizon_of}
+use Rattle.context_timeline.specs.State.{TimelineState, IsTimelineState, horizon_of}
 use Rattle.context_timeline.specs.Marks.{mark_in, mark_below, mark_between, last_not_after, is_below, healed, next_stamp}
 use Rattle.sample_binder.specs.declared.leaving.Leaving.{Leaving}
 use Rattle.sample_binder.specs.declared.leaving.Leaving.TheVariants as leaving
@@ -57,7 +57,7 @@ before_sound : (b : Bool) → OfBound (cond b mark.TimelineFull mark.BeforeFirst
 before_sound true = tt
 before_sound false = tt
 
-below_sound : (line : Line) (o : Option ℕ) → AreSound line.kept → OfBound (mark_below line o)
+below_sound : (line : TimelineState) (o : Option ℕ) → AreSound line.kept → OfBound (mark_below line o)
 below_sound line None h = before_sound (nat_lt line.limit line.added)
 below_sound line (Some k) h = between_sound (line.added - length line.kept + k) (slice_get line.kept k) (slice_get line.kept (k + 1)) (h.each k)
 
@@ -65,23 +65,23 @@ chosen_sound : (b : Bool) (m : Mark) → OfBound m → OfBound (cond b m mark.Op
 chosen_sound true m h = h
 chosen_sound false m h = tt
 
-mark_sound : (line : Line) (t : ℕ) → AreSound line.kept → OfBound (mark_in line t)
+mark_sound : (line : TimelineState) (t : ℕ) → AreSound line.kept → OfBound (mark_in line t)
 mark_sound line t h = chosen_sound (is_below t (horizon_of line)) (mark_below line (last_not_after line.kept t)) (below_sound line (last_not_after line.kept t) h)
 
 -- ---- how a packet leaves is by its runs
 
 -- in one run, or cut
-chosen_runs : (line : Line) (why : Reason) (samples : Sampled) (whole : Bool) → (whole ≡ true → runs_left line why (leaving.Whole samples) ≡ runs_left line why (leaving.Cut samples 0))
+chosen_runs : (line : TimelineState) (why : Reason) (samples : Sampled) (whole : Bool) → (whole ≡ true → runs_left line why (leaving.Whole samples) ≡ runs_left line why (leaving.Cut samples 0))
     → runs_left line why (cond whole (leaving.Whole samples) (leaving.Cut samples 0)) ≡ runs_left line why (leaving.Cut samples 0)
 chosen_runs line why samples true h = h refl
 chosen_runs line why samples false h = refl
 
-chosen_leaves : (line : Line) (why : Reason) (samples : Sampled) (whole : Bool) → IsCut line why samples 0 → IsLeaving line why (cond whole (leaving.Whole samples) (leaving.Cut samples 0))
+chosen_leaves : (line : TimelineState) (why : Reason) (samples : Sampled) (whole : Bool) → IsCut line why samples 0 → IsLeaving line why (cond whole (leaving.Whole samples) (leaving.Cut samples 0))
 chosen_leaves line why samples true h = tt
 chosen_leaves line why samples false h = h
 
-module _ (line : Line) (why : Reason) (shape : Shape) (fields : List ℕ) (sampling : HasSampling fields) where
-  bound_runs : (place : ℕ) (o : Option ℕ) → ((n : ℕ) → o ≡ Some n → 0 < n) → IsLine line → mark_in line (moment_of shape.stamp) ≡ mark.Bound place fields
+module _ (line : TimelineState) (why : Reason) (shape : Shape) (fields : List ℕ) (sampling : HasSampling fields) where
+  bound_runs : (place : ℕ) (o : Option ℕ) → ((n : ℕ) → o ≡ Some n → 0 < n) → IsTimelineState line → mark_in line (moment_of shape.stamp) ≡ mark.Bound place fields
       → runs_left line why (leaving_bound line shape fields o) ≡ runs_bound line why shape fields o
   bound_runs place None some is_line here = refl
   bound_runs place (Some number) some is_line here =
@@ -98,7 +98,7 @@ module _ (line : Line) (why : Reason) (shape : Shape) (fields : List ℕ) (sampl
       chosen_leaves line why samples (is_below (capture_at shape.stamp (number - 1) (rate_in fields)) (next_stamp line.kept (moment_of shape.stamp)))
       (record { sampling = sampling; there = some number refl; start = refl })
 
-by_runs : (line : Line) (why : Reason) (shape : Shape) (m : Mark) → OfBound m → IsLine line → mark_in line (moment_of shape.stamp) ≡ m
+by_runs : (line : TimelineState) (why : Reason) (shape : Shape) (m : Mark) → OfBound m → IsTimelineState line → mark_in line (moment_of shape.stamp) ≡ m
     → runs_left line why (leaving_by line shape why m) ≡ runs_by line why shape m
 by_runs line why shape mark.Open h is_line here = refl
 by_runs line why shape mark.BeforeFirst h is_line here = refl
@@ -107,7 +107,7 @@ by_runs line why shape (mark.Lost lost) h is_line here = refl
 by_runs line why shape (mark.Bound place fields) h is_line here =
     bound_runs line why shape fields h place (number_of shape (size_in fields)) (λ n e. number_positive shape (size_in fields) n (omega (arith, h.some_bits)) e) is_line here
 
-by_leaves : (line : Line) (why : Reason) (shape : Shape) (m : Mark) → OfBound m → IsLeaving line why (leaving_by line shape why m)
+by_leaves : (line : TimelineState) (why : Reason) (shape : Shape) (m : Mark) → OfBound m → IsLeaving line why (leaving_by line shape why m)
 by_leaves line why shape mark.Open h = tt
 by_leaves line why shape mark.BeforeFirst h = tt
 by_leaves line why shape mark.TimelineFull h = tt
@@ -129,12 +129,12 @@ not_taken : (b : Bool) (l : Leaving) → cond b (Some l) None ≡ None → b ≡
 not_taken true l e = absurd (cc)
 not_taken false l e = refl
 
-module _ (pending : ℕ) (line : Line) (ended : Bool) where
+module _ (pending : ℕ) (line : TimelineState) (ended : Bool) where
   abbrev why : Reason
   why = open_reason ended
 
   -- the first leaves by its runs
-  pub first_leaves : (packet : Pending) (rest : List Pending) (now : Leaving) → IsLine line → AreSound line.kept → first_decided pending line ended (packet ∷ rest) ≡ Some now
+  pub first_leaves : (packet : Pending) (rest : List Pending) (now : Leaving) → IsTimelineState line → AreSound line.kept → first_decided pending line ended (packet ∷ rest) ≡ Some now
       → (is_first_due pending line ended packet.shape (length (packet ∷ rest)) ≡ true) × (runs_left line why now ≡ runs_of line why packet.shape) × IsLeaving line why now
   first_leaves packet rest now is_line sound e =
       let m = mark_in line (moment_of packet.shape.stamp) in
@@ -230,7 +230,7 @@ module _ (old : State) (limits : Limits) (events : List Event) (taken : ℕ) (h 
       case_last limits events h.left m e ∙ ap (has_case limits events h.left) here.0
       ∙ ap (λ b. is_known line packet.shape || b || has_ended events) (ap (λ k. nat_lt (h.left + limits.pending) k) count ∙ more_wait h.left limits.pending (length (packet ∷ rest)))
       ∙ ap (λ p. is_first_due p line (has_ended events) packet.shape (length (packet ∷ rest))) (sym h.pending)
-      ∙ ap (λ (l : Line). is_first_due old.pending l (has_ended events) packet.shape (length (packet ∷ rest))) (sym h.line)
+      ∙ ap (λ (l : TimelineState). is_first_due old.pending l (has_ended events) packet.shape (length (packet ∷ rest))) (sym h.line)
       ∙ ap (λ b. is_first_due old.pending old.line b packet.shape (length (packet ∷ rest))) (sym h.ended) ∙ on in
       let before : may_leave (has_case_after limits events) m (suc h.left) ≡ None =
       sym (ap (λ k. may_leave (has_case_after limits events) k (suc h.left)) (ap (λ k. k - 1) e ∙ one)) ∙ sym (ap (may_leave (has_case_after limits events) (length events - 1)) next) ∙ h.not_before in
@@ -279,7 +279,7 @@ IsState-packet old after leaving given h g =
     }
 
 -- whether anything is owed
-owes_run : (line : Line) (reason : Reason) (now : Leaving) (behind : List Out) → IsLeaving line reason now → map out.Run (runs_left line reason now) ++ behind ≢ []
+owes_run : (line : TimelineState) (reason : Reason) (now : Leaving) (behind : List Out) → IsLeaving line reason now → map out.Run (runs_left line reason now) ++ behind ≢ []
 owes_run line reason now behind h e = leaves_some line reason now h (map_empty out.Run (runs_left line reason now) (append_empty (map out.Run (runs_left line reason now)) behind e).0)
 
 pub owes-leaving : (old : State) (now : Leaving) → IsState old → old.leaving ≡ Some now → owed old ≢ []
@@ -288,7 +288,7 @@ owes-leaving old now h e f =
     owes_run old.line (open_reason old.ended) now (queue_owes old.pending old.line old.ended old.queue) leaves
     (sym (ap (λ (o : Option Leaving). map out.Run (runs_left_of old.line (open_reason old.ended) o) ++ queue_owes old.pending old.line old.ended old.queue) e) ∙ f)
 
-first_owes : (pending : ℕ) (line : Line) (ended : Bool) (queue : List Pending) (now : Leaving) → IsLine line → AreSound line.kept → first_decided pending line ended queue ≡ Some now → queue_owes pending line ended queue ≢ []
+first_owes : (pending : ℕ) (line : TimelineState) (ended : Bool) (queue : List Pending) (now : Leaving) → IsTimelineState line → AreSound line.kept → first_decided pending line ended queue ≡ Some now → queue_owes pending line ended queue ≢ []
 first_owes pending line ended [] now is_line s e f = absurd (cc)
 first_owes pending line ended (packet ∷ rest) now is_line s e f =
     let on = (first_leaves pending line ended packet rest now is_line s e).0 in

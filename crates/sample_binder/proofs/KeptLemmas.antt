@@ -11,7 +11,7 @@ use Rattle.reorder_window.specs.State.{Holding, StandsFor}
 use Rattle.reorder_window.specs.Window.{boundary, is_late, twin, in_place, accepted, number_held, held, released, releases, answer_above, answer_by, answer}
 use Rattle.reorder_window.proofs.OrderLemmas.{twin-take, length-in_place}
 use Rattle.reorder_window.proofs.WindowLemmas.{take-held, accepted-falling, accepted-more}
-use Rattle.context_timeline.specs.Line.{Line}
+use Rattle.context_timeline.specs.State.{TimelineState}
 use Rattle.sample_binder.specs.declared.turned.Turned.{Turned}
 use Rattle.sample_binder.specs.declared.out.Out.{Out}
 use Rattle.sample_binder.specs.declared.out.Out.TheVariants as out
@@ -121,7 +121,7 @@ not_full true full ended owes rest x e = absurd (cc)
 not_full false true ended owes rest x e = absurd (cc)
 not_full false false ended owes rest x e = refl
 
-few_wait : (pending : ℕ) (line : Line) (ended : Bool) (queue : List Pending) → queue_owes pending line ended queue ≡ [] → length queue ≤ pending
+few_wait : (pending : ℕ) (line : TimelineState) (ended : Bool) (queue : List Pending) → queue_owes pending line ended queue ≡ [] → length queue ≤ pending
 few_wait pending line ended [] e = omega arith
 few_wait pending line ended (packet ∷ rest) e =
     let off = not_full (is_known line packet.shape) (nat_lt pending (length (packet ∷ rest))) ended (map out.Run (runs_of line (open_reason ended) packet.shape)) (queue_owes pending line ended rest) (out.Packet packet.buf packet.lost) e in

@@ -8,8 +8,8 @@ use Rattle.vrt_time.specs.Time.{TimeStamp, moment_of}
 use Rattle.context_timeline.specs.declared.timed_context.TimedContext.{TimedContext}
 use Rattle.context_timeline.specs.declared.mark.Mark.{Mark}
 use Rattle.context_timeline.specs.declared.mark.Mark.TheVariants as mark
-use Rattle.context_timeline.specs.Line.{Line, horizon_of, moments}
-use Rattle.context_timeline.proofs.LineLaws.{moment_at}
+use Rattle.context_timeline.specs.State.{TimelineState, horizon_of, moments}
+use Rattle.context_timeline.proofs.StateLaws.{moment_at}
 use Rattle.context_timeline.specs.Marks.{last_below, last_not_after, healed, mark_between, mark_below, mark_in, is_below}
 use Rattle.vrt_fields.specs.FieldWords.{AreFields}
 use Rattle.sample_binder.specs.Sound.{HasSampling}
@@ -56,7 +56,7 @@ before_sound : (full : Bool) → IsSoundMark (cond full mark.TimelineFull mark.B
 before_sound true = tt
 before_sound false = tt
 
-below_sound : (line : Line) (o : Option ℕ) → AllByRecursion IsSoundContext line.kept → IsSoundMark (mark_below line o)
+below_sound : (line : TimelineState) (o : Option ℕ) → AllByRecursion IsSoundContext line.kept → IsSoundMark (mark_below line o)
 below_sound line None h = before_sound (nat_lt line.limit line.added)
 below_sound line (Some k) h =
     between_sound (line.added - length line.kept + k) (slice_get line.kept k) (slice_get line.kept (k + 1))
@@ -67,7 +67,7 @@ chosen_sound true m h = h
 chosen_sound false m h = tt
 
 -- a mark tells what is true of the kept contexts
-pub mark_sound : (line : Line) (t : ℕ) → AllByRecursion IsSoundContext line.kept → IsSoundMark (mark_in line t)
+pub mark_sound : (line : TimelineState) (t : ℕ) → AllByRecursion IsSoundContext line.kept → IsSoundMark (mark_in line t)
 mark_sound line t h =
     chosen_sound (is_below t (horizon_of line)) (mark_below line (last_not_after line.kept t)) (below_sound line (last_not_after line.kept t) h)
 
@@ -124,7 +124,7 @@ is_le m n e = grind (arith, nat_tests)
 le_still : (m s t : ℕ) → s ≤ t → nat_le m s ≡ true → nat_le m t ≡ true
 le_still m s t le e = grind (arith, nat_tests)
 
-module _ (line : Line) (s t : ℕ) (le : s ≤ t) where
+module _ (line : TimelineState) (s t : ℕ) (le : s ≤ t) where
   abbrev reached : ℕ → ℕ → Bool
   reached u k = nat_le (get_or (moments line.kept) k 0) u
 

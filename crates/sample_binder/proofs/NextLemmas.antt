@@ -4,7 +4,7 @@ use Rattle.std.proofs.lemmas.List.{append-nil, drop-append-le, length-take-le}
 use Rattle.std.proofs.lemmas.Option.{slice_get_past, slice_get_within}
 use Rattle.vrt_words.specs.Buffer.{Buffer}
 use Rattle.difi_context.specs.declared.context.ContextRec.{ContextRec}
-use Rattle.context_timeline.specs.Line.{Line}
+use Rattle.context_timeline.specs.State.{TimelineState}
 use Rattle.reorder_window.specs.declared.entry.Entry.{Entry}
 use Rattle.reorder_window.specs.State as window
 use Rattle.reorder_window.specs.State.{Holding}
@@ -25,7 +25,7 @@ use Rattle.sample_binder.proofs.BinderLemmas.{context_arrivals-append, data_arri
 
 -- ---- the end is told
 
-pub told_contexts : (kept given : ℕ) (holding : Holding ContextRec) (line : Line) (told : Bool) → AreContextsSeen kept given holding line told → AreContextsSeen kept given holding line true
+pub told_contexts : (kept given : ℕ) (holding : Holding ContextRec) (line : TimelineState) (told : Bool) → AreContextsSeen kept given holding line told → AreContextsSeen kept given holding line true
 told_contexts kept given holding line told s =
     record { arrivals = s.arrivals; drained = s.drained; stands = s.stands; undrained = λ e. absurd (cc); entries = s.entries; line_is = s.line_is; few = s.few }
 

@@ -2,7 +2,7 @@
 use Rattle.std.proofs.Common.{◌≡◌, ◌⊎◌, ℕ, suc, zero, ◌+◌, ◌-◌, ◌<◌, ◌≤◌, ◌||◌, nat_lt, Bool, true, false, cond, List, [], ◌∷◌, ◌++◌, length, take, drop, slice_get, Option, Some, None, refl, sym, ap, ◌∙◌, inl, inr, arith, length-append, append_assoc}
 use Rattle.std.proofs.lemmas.Bool.Decides.{nat_tests}
 use Rattle.std.proofs.lemmas.List.{append-nil, take-append-le, take_all, length-drop}
-use Rattle.context_timeline.specs.Line.{Line}
+use Rattle.context_timeline.specs.State.{TimelineState}
 use Rattle.vrt_fields.specs.declared.limits.Limits.{Limits}
 use Rattle.sample_binder.specs.Pending.{Pending}
 use Rattle.sample_binder.proofs.Cases.{tested}
@@ -101,7 +101,7 @@ module _ (limits : Limits) (events : List Event) (event : Event) where
       let before = due_before limits events 1 j d (ap (may_leave (has_case_after limits events) n) same ∙ e) in
       ap (λ xs. xs ++ leaves limits more j) (outputs_still j before.0 before.1) ∙ ap (λ xs. outputs_of_first limits events j ++ xs) (leaves_still j d e)
 
-  abbrev line : Line
+  abbrev line : TimelineState
   line = line_after limits.kept more
 
   abbrev ended : Bool

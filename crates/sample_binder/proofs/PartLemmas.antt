@@ -3,7 +3,7 @@ use Rattle.std.proofs.Common.{◌≡◌, ℕ, ◌-◌, ◌*◌, Bool, true, fals
 use Rattle.std.proofs.lemmas.List.{append-nil}
 use Rattle.std.specs.List.{AllByRecursion}
 use Rattle.vrt_header.specs.Profile.{PacketProfile}
-use Rattle.context_timeline.specs.Line.{Line}
+use Rattle.context_timeline.specs.State.{TimelineState}
 use Rattle.vrt_fields.specs.declared.limits.Limits.{Limits}
 use Rattle.sample_binder.specs.declared.out.Out.{Out}
 use Rattle.sample_binder.specs.Pending.{Pending}
@@ -22,7 +22,7 @@ use Rattle.sample_binder.proofs.MarkLemmas.{IsSoundContext}
 use Rattle.sample_binder.proofs.PrefixLaws.{outputs-prefix, one_more_owes}
 use Rattle.sample_binder.proofs.WritableLemmas.{AreLeft, runs_left}
 
-abbrev pub part_of : Line → Reason → Pending → Part
+abbrev pub part_of : TimelineState → Reason → Pending → Part
 part_of line why packet = record { buf = packet.buf; lost = packet.lost; runs = runs_of line why packet.shape }
 
 -- ---- packets one after another
@@ -50,7 +50,7 @@ module _ (P : Part → Type 0) where
   chosen_parts false xs h = no_parts
 
   -- those that the packets that wait give now
-  owes_parts : (pending : ℕ) (line : Line) (ended : Bool) (queue : List Pending) → AllByRecursion (λ (packet : Pending). P (part_of line (open_reason ended) packet)) queue
+  owes_parts : (pending : ℕ) (line : TimelineState) (ended : Bool) (queue : List Pending) → AllByRecursion (λ (packet : Pending). P (part_of line (open_reason ended) packet)) queue
       → AreParts P (queue_owes pending line ended queue)
   owes_parts pending line ended [] h = no_parts
   owes_parts pending line ended (packet ∷ rest) h =

@@ -2,7 +2,7 @@
 use Rattle.std.proofs.Common.{◌≡◌, ℕ, suc, zero, ◌+◌, ◌-◌, ◌<◌, ◌≤◌, ◌&&◌, not, nat_lt, Bool, true, false, cond, ◌∷◌, map, Some, None, IfSome, refl, sym, ap, ◌∙◌, inl, inr, arith}
 use Rattle.std.proofs.lemmas.Bool.Decides.{nat_tests}
 use Rattle.std.proofs.lemmas.Bool.{cases_lt}
-use Rattle.context_timeline.specs.Line.{Line}
+use Rattle.context_timeline.specs.State.{TimelineState}
 use Rattle.sample_binder.specs.declared.label.Label.{Label}
 use Rattle.sample_binder.specs.declared.leaving.Leaving.TheVariants as leaving
 use Rattle.sample_binder.specs.declared.reason.Reason.{Reason}
@@ -74,7 +74,7 @@ cut_first labels number first label end (suc n) h start e =
     ∙ ap (λ m. (first, m - first) ∷ cut_from labels number (suc first) n) next
     ∙ ap (λ xs. (first, end - first) ∷ xs) (rest ∙ ap (λ k. cut_from labels number k (number - end)) at)
 
-module _ (line : Line) (why : Reason) (samples : Sampled) where
+module _ (line : TimelineState) (why : Reason) (samples : Sampled) where
   abbrev labels_of : ℕ → Label
   labels_of = label_at line why samples.stamp samples.fields
 

@@ -8,8 +8,8 @@ use Rattle.vrt_time.specs.Time.{moment_of}
 use Rattle.difi_context.specs.declared.context.ContextRec.{ContextRec}
 use Rattle.difi_context.specs.Context.{IsInGrammar}
 use Rattle.context_timeline.specs.declared.timed_context.TimedContext.{TimedContext}
-use Rattle.context_timeline.specs.Line.{Line, line_of, with_context, horizon_of}
-use Rattle.context_timeline.proofs.LineLaws.{line_of-push, IsLine-with_context}
+use Rattle.context_timeline.specs.State.{TimelineState, state_of, with_context, horizon_of}
+use Rattle.context_timeline.proofs.StateLaws.{state_of-push, IsTimelineState-with_context}
 use Rattle.sample_binder.specs.declared.label.Label.{Label}
 use Rattle.sample_binder.specs.declared.leaving.Leaving.{Leaving}
 use Rattle.sample_binder.specs.declared.leaving.Leaving.TheVariants as leaving
@@ -63,14 +63,14 @@ cut_some labels number first (suc n) e lt f =
     absurd (cc)
 
 -- what leaves has a run
-pub leaves_some : (line : Line) (why : Reason) (l : Leaving) → IsLeaving line why l → runs_left line why l ≢ []
+pub leaves_some : (line : TimelineState) (why : Reason) (l : Leaving) → IsLeaving line why l → runs_left line why l ≢ []
 leaves_some line why (leaving.Raw reason stamp pad) h e = absurd (cc)
 leaves_some line why (leaving.Whole samples) h e = absurd (cc)
 leaves_some line why (leaving.Cut samples first) h e =
     cut_some (label_at line why samples.stamp samples.fields) samples.number first (samples.number - first) h.start (omega (arith, h.there))
     (map_empty (run_at line why samples.stamp samples.fields) (cut_from (label_at line why samples.stamp samples.fields) samples.number first (samples.number - first)) e)
 
-none_leaves : (line : Line) (why : Reason) (o : Option Leaving) → IfSome o (IsLeaving line why) → runs_left_of line why o ≡ [] → o ≡ None
+none_leaves : (line : TimelineState) (why : Reason) (o : Option Leaving) → IfSome o (IsLeaving line why) → runs_left_of line why o ≡ [] → o ≡ None
 none_leaves line why None h e = refl
 none_leaves line why (Some l) h e = absurd (leaves_some line why l h e)
 
@@ -78,7 +78,7 @@ none_given : {X : Type 0} (b : Bool) (x : X) (xs : List X) → cond b (x ∷ xs)
 none_given true x xs e = absurd (cc)
 none_given false x xs e = refl
 
-first_waits : (pending : ℕ) (line : Line) (ended : Bool) (packet : Pending) (rest : List Pending) → queue_owes pending line ended (packet ∷ rest) ≡ []
+first_waits : (pending : ℕ) (line : TimelineState) (ended : Bool) (packet : Pending) (rest : List Pending) → queue_owes pending line ended (packet ∷ rest) ≡ []
     → is_first_due pending line ended packet.shape (length (packet ∷ rest)) ≡ false
 first_waits pending line ended packet rest e =
     none_given (is_first_due pending line ended packet.shape (length (packet ∷ rest))) (out.Packet packet.buf packet.lost)
@@ -96,7 +96,7 @@ pub record IsIdle (state : State) : Type 0 where
   pub queue_waits : queue_owes state.pending state.line state.ended state.queue ≡ []
   pub few : length state.queue ≤ state.pending
 
-few_in : (pending : ℕ) (line : Line) (ended : Bool) (queue : List Pending) → queue_owes pending line ended queue ≡ [] → length queue ≤ pending
+few_in : (pending : ℕ) (line : TimelineState) (ended : Bool) (queue : List Pending) → queue_owes pending line ended queue ≡ [] → length queue ≤ pending
 few_in pending line ended [] e = omega arith
 few_in pending line ended (packet ∷ rest) e =
     let off = first_waits pending line ended packet rest e in
@@ -106,7 +106,7 @@ unknown : (known full ended : Bool) → (known || full || ended) ≡ false → k
 unknown known full ended e = grind arith
 
 -- where nothing is owed, the first stays the first behind one more, and needs another context
-pub first_held : (pending : ℕ) (line : Line) (ended : Bool) (queue : List Pending) (packet : Pending) → queue_owes pending line ended queue ≡ [] → queue ≢ [] → FirstWaits line (queue ++ packet ∷ [])
+pub first_held : (pending : ℕ) (line : TimelineState) (ended : Bool) (queue : List Pending) (packet : Pending) → queue_owes pending line ended queue ≡ [] → queue ≢ [] → FirstWaits line (queue ++ packet ∷ [])
 first_held pending line ended [] packet e some = absurd (some refl)
 first_held pending line ended (first ∷ rest) packet e some =
     unknown (is_known line first.shape) (nat_lt pending (length (first ∷ rest))) ended (first_waits pending line ended first rest e)
@@ -118,7 +118,7 @@ held_some empty n queue e all some f =
     absurd (let told : empty ≡ true = e ∙ ap (λ k. k == 0) none in let off : not true ≡ true = sym (ap not told) ∙ some in cc)
 
 -- the first needs another context, no more wait than may, and the end has not come
-first_still : (pending : ℕ) (line : Line) (ended : Bool) (queue : List Pending) → FirstWaits line queue → ended ≡ false → length queue ≤ pending → queue_owes pending line ended queue ≡ []
+first_still : (pending : ℕ) (line : TimelineState) (ended : Bool) (queue : List Pending) → FirstWaits line queue → ended ≡ false → length queue ≤ pending → queue_owes pending line ended queue ≡ []
 first_still pending line ended [] waits e few = refl
 first_still pending line ended (first ∷ rest) waits e few =
     let full : nat_lt pending (length (first ∷ rest)) ≡ false = grind (arith, nat_tests) in
@@ -196,7 +196,7 @@ stands-more old new limits events event taken h state e pending line ended queue
     let before : may_leave (has_case_after limits events) (n - 1) (suc h.left) ≡ None = sym (ap (may_leave (has_case_after limits events) (n - 1)) next) ∙ h.not_before in
     let waits : queue_owes limits.pending (line_after limits.kept events) (has_ended events) old.queue ≡ [] =
     ap (λ p. queue_owes p (line_after limits.kept events) (has_ended events) old.queue) (sym h.pending)
-    ∙ ap (λ (l : Line). queue_owes old.pending l (has_ended events) old.queue) (sym h.line)
+    ∙ ap (λ (l : TimelineState). queue_owes old.pending l (has_ended events) old.queue) (sym h.line)
     ∙ ap (λ b. queue_owes old.pending old.line b old.queue) (sym h.ended) ∙ calm.queue_waits in
     let off = no_case limits events h.left old.queue h.queue h.left_within waits in
     let none = not_due limits events h.left h.since n refl h.are_due before off in
@@ -222,7 +222,7 @@ stands-more old new limits events event taken h state e pending line ended queue
       rest = ap (drop taken) given ∙ done.1
           ∙ ap (λ (q : List Pending). queue_owes limits.pending (line_after limits.kept more) (has_ended more) q) (sym same_queue)
           ∙ ap (λ p. queue_owes p (line_after limits.kept more) (has_ended more) new.queue) (sym (pending ∙ h.pending))
-          ∙ ap (λ (l : Line). queue_owes new.pending l (has_ended more) new.queue) (sym line)
+          ∙ ap (λ (l : TimelineState). queue_owes new.pending l (has_ended more) new.queue) (sym line)
           ∙ ap (λ b. queue_owes new.pending new.line b new.queue) (sym ended)
           ∙ ap (λ (o : Option Leaving). map out.Run (runs_left_of new.line (open_reason new.ended) o) ++ queue_owes new.pending new.line new.ended new.queue) (sym (leaving ∙ calm.none_leaves));
     }
@@ -248,21 +248,21 @@ module _ (old : State) (limits : Limits) (events : List Event) (taken : ℕ) (h 
   pub stands-context : (context : TimedContext) → StandsFor (after_context old context) limits (events ++ ContextEvent context ∷ []) taken
   stands-context context =
       let line : with_context old.line context ≡ line_after limits.kept (events ++ ContextEvent context ∷ []) =
-      ap (λ (l : Line). with_context l context) h.line ∙ line_of-push limits.kept (contexts_of events) context
-      ∙ ap (line_of limits.kept) (sym (contexts_of-append events (ContextEvent context ∷ []))) in
+      ap (λ (l : TimelineState). with_context l context) h.line ∙ state_of-push limits.kept (contexts_of events) context
+      ∙ ap (state_of limits.kept) (sym (contexts_of-append events (ContextEvent context ∷ []))) in
       stands-more old (after_context old context) limits events (ContextEvent context) taken h state nothing refl line
       (h.ended ∙ or_false (has_ended events) ∙ sym (has_ended-append events (ContextEvent context ∷ []))) (sym (append-nil old.queue)) refl
 
   pub stands-data : (packet : Pending) → StandsFor (after_data old packet) limits (events ++ DataEvent packet ∷ []) taken
   stands-data packet =
       let same : contexts_of events ≡ contexts_of (events ++ DataEvent packet ∷ []) = sym (append-nil (contexts_of events)) ∙ sym (contexts_of-append events (DataEvent packet ∷ [])) in
-      stands-more old (after_data old packet) limits events (DataEvent packet) taken h state nothing refl (h.line ∙ ap (line_of limits.kept) same)
+      stands-more old (after_data old packet) limits events (DataEvent packet) taken h state nothing refl (h.line ∙ ap (state_of limits.kept) same)
       (h.ended ∙ or_false (has_ended events) ∙ sym (has_ended-append events (DataEvent packet ∷ []))) refl refl
 
   pub stands-end : StandsFor (after_end old) limits (events ++ EndEvent ∷ []) taken
   stands-end =
       let same : contexts_of events ≡ contexts_of (events ++ EndEvent ∷ []) = sym (append-nil (contexts_of events)) ∙ sym (contexts_of-append events (EndEvent ∷ [])) in
-      stands-more old (after_end old) limits events EndEvent taken h state nothing refl (h.line ∙ ap (line_of limits.kept) same)
+      stands-more old (after_end old) limits events EndEvent taken h state nothing refl (h.line ∙ ap (state_of limits.kept) same)
       (or_true (has_ended events) ∙ sym (has_ended-append events (EndEvent ∷ []))) (sym (append-nil old.queue)) refl
 
 -- ---- what stays true of every queue
@@ -287,7 +287,7 @@ sound-more limit kept context h s = record {
       slice_get-push kept context (λ (c : TimedContext). HasSampling c.fields) h.each s (m + k) a (sym at ∙ e);
 }
 
-no_leaving : (line : Line) (why : Reason) (o : Option Leaving) → o ≡ None → IfSome o (IsLeaving line why)
+no_leaving : (line : TimelineState) (why : Reason) (o : Option Leaving) → o ≡ None → IfSome o (IsLeaving line why)
 no_leaving line why o e = subst (λ (o : Option Leaving). IfSome o (IsLeaving line why)) (sym e) tt
 
 module _ (old : State) (state : IsState old) (nothing : owed old ≡ []) where
@@ -297,7 +297,7 @@ module _ (old : State) (state : IsState old) (nothing : owed old ≡ []) where
       let calm = idle old state nothing in
       record {
         room = state.room;
-        is_line = IsLine-with_context old.line context state.is_line later;
+        is_line = IsTimelineState-with_context old.line context state.is_line later;
         sound = sound-more old.line.limit old.line.kept context state.sound s;
         shapes = state.shapes;
         leaving = no_leaving (with_context old.line context) (open_reason old.ended) old.leaving calm.none_leaves;

@@ -6,9 +6,9 @@ use Rattle.vrt_time.specs.Time.{TimeStamp, moment_of, capture_at}
 use Rattle.vrt_time.proofs.TimeLaws.{capture_at-le}
 use Rattle.context_timeline.specs.declared.mark.Mark.TheVariants as mark
 use Rattle.context_timeline.specs.Cut.{stamp_at}
-use Rattle.context_timeline.specs.Line.{Line, IsLine, moments}
+use Rattle.context_timeline.specs.State.{TimelineState, IsTimelineState, moments}
 use Rattle.context_timeline.specs.Marks.{mark_in, is_below, next_stamp}
-use Rattle.context_timeline.proofs.CutLaws.{cut_of, next_stamp_cut, mark_in_cut, mark_in_later}
+use Rattle.context_timeline.proofs.PartitionLaws.{cut_of, next_stamp_cut, mark_in_cut, mark_in_later}
 use Rattle.sample_binder.specs.declared.label.Label.{Label}
 use Rattle.sample_binder.specs.declared.label.Label.TheVariants as label
 use Rattle.sample_binder.specs.declared.leaving.Leaving.TheVariants as leaving
@@ -34,7 +34,7 @@ before_later s t None le e = e
 before_later s t (Some stamp) le e = grind (arith, nat_tests)
 
 -- a later moment in front of the next stamp has the same mark
-mark_same : (line : Line) (t later : ℕ) → IsLine line → t ≤ later → is_below later (next_stamp line.kept t) ≡ true → mark_in line later ≡ mark_in line t
+mark_same : (line : TimelineState) (t later : ℕ) → IsTimelineState line → t ≤ later → is_below later (next_stamp line.kept t) ≡ true → mark_in line later ≡ mark_in line t
 mark_same line t later h le below =
     let cut = cut_of (moments line.kept) t h.rising in
     let next = next_stamp_cut line.kept t cut.0 cut.1 in
@@ -50,7 +50,7 @@ first_time stamp rate = grind (arith, common_steps)
 none_behind : (n : ℕ) → nat_lt n n ≡ false
 none_behind n = grind (arith, nat_tests)
 
-module _ (line : Line) (why : Reason) (samples : Sampled) (place : ℕ) (is_line : IsLine line) (sampling : HasSampling samples.fields) (some : 0 < samples.number)
+module _ (line : TimelineState) (why : Reason) (samples : Sampled) (place : ℕ) (is_line : IsTimelineState line) (sampling : HasSampling samples.fields) (some : 0 < samples.number)
     (here : mark_in line (moment_of samples.stamp) ≡ mark.Bound place samples.fields)
     (whole : is_below (capture_at samples.stamp (samples.number - 1) (rate_in samples.fields)) (next_stamp line.kept (moment_of samples.stamp)) ≡ true) where
   abbrev bound : Label

@@ -6,7 +6,7 @@ use Rattle.std.specs.List.{AllByRecursion}
 use Rattle.vrt_time.specs.Time.{moment_of, capture_at}
 use Rattle.context_timeline.specs.declared.mark.Mark.{Mark}
 use Rattle.context_timeline.specs.declared.mark.Mark.TheVariants as mark
-use Rattle.context_timeline.specs.Line.{Line}
+use Rattle.context_timeline.specs.State.{TimelineState}
 use Rattle.context_timeline.specs.Marks.{mark_in}
 use Rattle.sample_binder.specs.declared.label.Label.{Label}
 use Rattle.sample_binder.specs.declared.label.Label.TheVariants as label
@@ -86,7 +86,7 @@ module _ (payload : ℕ) (shape : Shape) (some : 1 ≤ shape.words) (fits : IsSh
 
   -- ---- a packet that is cut
 
-  module _ (line : Line) (ended : Bool) (sound : AllByRecursion IsSoundContext line.kept) (fields : List ℕ) (first : AreSoundFields fields) (place number : ℕ)
+  module _ (line : TimelineState) (ended : Bool) (sound : AllByRecursion IsSoundContext line.kept) (fields : List ℕ) (first : AreSoundFields fields) (place number : ℕ)
       (here : mark_in line (moment_of shape.stamp) ≡ mark.Bound place fields) (holds : number_of shape (size_in fields) ≡ Some number) where
     abbrev labels : ℕ → Label
     labels = label_at line (open_reason ended) shape.stamp fields
@@ -156,7 +156,7 @@ module _ (payload : ℕ) (shape : Shape) (some : 1 ≤ shape.words) (fits : IsSh
           counted = omega (arith, cut_counted xs 0 h, eight);
         }
 
-  module _ (line : Line) (ended : Bool) (sound : AllByRecursion IsSoundContext line.kept) where
+  module _ (line : TimelineState) (ended : Bool) (sound : AllByRecursion IsSoundContext line.kept) where
     bound_left : (fields : List ℕ) (place : ℕ) → AreSoundFields fields → mark_in line (moment_of shape.stamp) ≡ mark.Bound place fields
         → (o : Option ℕ) → number_of shape (size_in fields) ≡ o → AreLeft payload (runs_bound line (open_reason ended) shape fields o)
     bound_left fields place first here None holds = raw_left reason.Shape tt (λ e. let no : 7 ≡ 6 = e in absurd (omega arith))

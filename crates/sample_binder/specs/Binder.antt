@@ -4,7 +4,7 @@ use Rattle.std.specs.List.{AllByRecursion}
 use Rattle.vrt_words.specs.Buffer.{Buffer}
 use Rattle.vrt_header.specs.Profile.{PacketProfile}
 use Rattle.difi_context.specs.declared.context.ContextRec.{ContextRec}
-use Rattle.context_timeline.specs.Line.{Line, line_of}
+use Rattle.context_timeline.specs.State.{TimelineState, state_of}
 use Rattle.reorder_window.specs.declared.entry.Entry.{Entry}
 use Rattle.reorder_window.specs.State as window
 use Rattle.reorder_window.specs.State.{Holding}
@@ -64,13 +64,13 @@ abbrev pub StandsFor : Bound → List Call → ℕ → Type 0
 StandsFor bound calls taken = Follows bound.limits bound.contexts bound.packets bound.state bound.told calls taken
 
 -- the contexts that arrived are in the grammar, and the timeline is that of those that were released
-pub record AreContextsSeen (kept given : ℕ) (holding : Holding ContextRec) (line : Line) (told : Bool) : Type 0 where
+pub record AreContextsSeen (kept given : ℕ) (holding : Holding ContextRec) (line : TimelineState) (told : Bool) : Type 0 where
   pub arrivals : List (Entry ContextRec)
   pub drained : ℕ
   pub stands : window.StandsFor holding arrivals drained
   pub undrained : told ≡ false → drained ≡ 0
   pub entries : AllByRecursion IsContextEntry arrivals
-  pub line_is : line ≡ line_of kept (map released_context (releases holding.size arrivals drained))
+  pub line_is : line ≡ state_of kept (map released_context (releases holding.size arrivals drained))
   pub few : length (accepted holding.size arrivals) ≤ given
 
 pub record ArePacketsSeen (holding : Holding Buffer) (told : Bool) : Type 0 where
@@ -80,7 +80,7 @@ pub record ArePacketsSeen (holding : Holding Buffer) (told : Bool) : Type 0 wher
   pub undrained : told ≡ false → drained ≡ 0
   pub entries : AllByRecursion IsDataEntry arrivals
 
-pub record AreSeen (kept given : ℕ) (contexts : Holding ContextRec) (packets : Holding Buffer) (line : Line) (told : Bool) : Type 0 where
+pub record AreSeen (kept given : ℕ) (contexts : Holding ContextRec) (packets : Holding Buffer) (line : TimelineState) (told : Bool) : Type 0 where
   pub contexts_seen : AreContextsSeen kept given contexts line told
   pub packets_seen : ArePacketsSeen packets told
 

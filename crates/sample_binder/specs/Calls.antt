@@ -4,7 +4,7 @@ use Rattle.vrt_words.specs.Words.{words_of, bits}
 use Rattle.vrt_words.specs.Buffer.{Buffer}
 use Rattle.vrt_time.specs.Time.{TimeStamp, stamp_of, fraction_of}
 use Rattle.difi_context.specs.declared.context.ContextRec.{ContextRec}
-use Rattle.context_timeline.specs.Line.{stamp_in, timed_context}
+use Rattle.context_timeline.specs.State.{stamp_in, timed_context}
 use Rattle.reorder_window.specs.declared.entry.Entry.{Entry}
 use Rattle.reorder_window.specs.declared.arrival.Arrival.{Arrival}
 use Rattle.reorder_window.specs.declared.arrival.Arrival.TheVariants as arrival

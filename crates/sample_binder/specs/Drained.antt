@@ -2,7 +2,7 @@
 use Rattle.std.specs.Prelude.{◌≡◌, ℕ, ◌+◌, ◌<◌, ◌≤◌, ◌^◌, Bool, true, if◌then◌else◌, List, length}
 use Rattle.vrt_words.specs.Buffer.{Buffer}
 use Rattle.difi_context.specs.declared.context.ContextRec.{ContextRec}
-use Rattle.context_timeline.specs.Line.{Line}
+use Rattle.context_timeline.specs.State.{TimelineState}
 use Rattle.reorder_window.specs.State.{Holding}
 use Rattle.vrt_fields.specs.declared.limits.Limits.{Limits}
 use Rattle.sample_binder.specs.Binder.{AreContextsSeen, ArePacketsSeen, Follows}
@@ -10,7 +10,7 @@ use Rattle.sample_binder.specs.Calls.{Call}
 use Rattle.sample_binder.specs.Queue.{State}
 
 -- the contexts that are held may be added, one after another
-pub record MayDrain (contexts : Holding ContextRec) (line : Line) : Type 0 where
+pub record MayDrain (contexts : Holding ContextRec) (line : TimelineState) : Type 0 where
   pub kept : ℕ
   pub given : ℕ
   pub some : 0 < kept

@@ -3,7 +3,7 @@ use Rattle.std.specs.Prelude.{ℕ, suc, zero, ◌+◌, ◌-◌, ◌&&◌, ◌||�
 use Rattle.vrt_time.specs.Time.{moment_of}
 use Rattle.context_timeline.specs.declared.mark.Mark.{Mark}
 use Rattle.context_timeline.specs.declared.mark.Mark.TheVariants as mark
-use Rattle.context_timeline.specs.Line.{Line, horizon_of}
+use Rattle.context_timeline.specs.State.{TimelineState, horizon_of}
 use Rattle.context_timeline.specs.Marks.{mark_in, is_below}
 use Rattle.vrt_fields.specs.declared.limits.Limits.{Limits}
 use Rattle.sample_binder.specs.Pending.{Pending}
@@ -13,20 +13,20 @@ use Rattle.sample_binder.specs.Samples.{size_in, number_of, captured}
 
 -- whether nothing later can change what is known of a packet whose first sample has a context: its payload does not
 -- divide, or its last sample was captured below the horizon
-abbrev pub is_closed : Line → Shape → List ℕ → Option ℕ → Bool
+abbrev pub is_closed : TimelineState → Shape → List ℕ → Option ℕ → Bool
 is_closed line shape fields None = true
 is_closed line shape fields (Some number) = is_below (captured shape fields (number - 1)) (horizon_of line)
 
 -- the first three cases, by the mark of the first sample: it is known that there is no context; or there is one, and the
 -- payload does not divide; or there is one, the payload divides, and the last sample is below the horizon
-abbrev pub is_known_by : Line → Shape → Mark → Bool
+abbrev pub is_known_by : TimelineState → Shape → Mark → Bool
 is_known_by line shape mark.Open = false
 is_known_by line shape mark.BeforeFirst = true
 is_known_by line shape mark.TimelineFull = true
 is_known_by line shape (mark.Lost lost) = true
 is_known_by line shape (mark.Bound place fields) = is_closed line shape fields (number_of shape (size_in fields))
 
-abbrev pub is_known : Line → Shape → Bool
+abbrev pub is_known : TimelineState → Shape → Bool
 is_known line shape = is_known_by line shape (mark_in line (moment_of shape.stamp))
 
 -- one of the five cases holds of packet number j, counted from 0, where these events have happened: one of the first three;

@@ -1,7 +1,7 @@
 -- The events of a stream, and what they have brought.
 use Rattle.std.specs.Prelude.{ℕ, Bool, true, false, List, [], ◌∷◌}
 use Rattle.context_timeline.specs.declared.timed_context.TimedContext.{TimedContext}
-use Rattle.context_timeline.specs.Line.{Line, line_of}
+use Rattle.context_timeline.specs.State.{TimelineState, state_of}
 use Rattle.sample_binder.specs.Pending.{Pending}
 
 -- a context is released, or a data packet, or the stream ends
@@ -32,5 +32,5 @@ has_ended (DataEvent packet ∷ events) = has_ended events
 has_ended (EndEvent ∷ events) = true
 
 -- the timeline after these events, which keeps so many contexts
-abbrev pub line_after : ℕ → List Event → Line
-line_after kept events = line_of kept (contexts_of events)
+abbrev pub line_after : ℕ → List Event → TimelineState
+line_after kept events = state_of kept (contexts_of events)

@@ -8,7 +8,7 @@ use Rattle.vrt_header.specs.Profile.{PacketProfile}
 use Rattle.difi_context.specs.Context.{IsInGrammar}
 use Rattle.difi_context.specs.declared.context.ContextRec.{ContextRec}
 use Rattle.difi_data.specs.Data.{DataPacket, IsData}
-use Rattle.context_timeline.specs.Line.{Line, stamp_in, horizon_of}
+use Rattle.context_timeline.specs.State.{TimelineState, stamp_in, horizon_of}
 use Rattle.reorder_window.specs.declared.entry.Entry.{Entry}
 use Rattle.sample_binder.specs.Calls.{data_stamp}
 
@@ -39,6 +39,6 @@ pub record IsDataEntry (arrived : Entry Buffer) : Type 0 where
   pub front : IsDataBytes arrived.item.bytes
 
 -- a context in the grammar, above the horizon
-pub record IsLater (line : Line) (rec : ContextRec) : Type 0 where
+pub record IsLater (line : TimelineState) (rec : ContextRec) : Type 0 where
   pub grammar : IsInGrammar rec
   pub above : IfSome (horizon_of line) (λ horizon. moment_of horizon < moment_of (stamp_in rec.prologue.stamp))

@@ -9,7 +9,7 @@ use Rattle.sample_binder.specs.declared.reason.Reason.TheVariants as reason
 use Rattle.sample_binder.specs.Events.{Event, packets_of, has_ended, line_after}
 use Rattle.sample_binder.specs.Due.{due}
 use Rattle.sample_binder.specs.Runs.{runs_of}
-use Rattle.context_timeline.specs.Line.{Line}
+use Rattle.context_timeline.specs.State.{TimelineState}
 
 -- why a packet waits no longer, although its mark is open: the end has come, or else too many wait
 abbrev pub open_reason : Bool → Reason
@@ -22,7 +22,7 @@ packets_in (out.Packet buf lost) = 1
 packets_in (out.Run run) = 0
 
 -- a packet and its runs
-abbrev pub packet_and_runs : Line → Reason → Pending → List Out
+abbrev pub packet_and_runs : TimelineState → Reason → Pending → List Out
 packet_and_runs line why packet = out.Packet packet.buf packet.lost ∷ map out.Run (runs_of line why packet.shape)
 
 -- the same after these events

@@ -1,7 +1,7 @@
 -- What a contract sees of the queue of released packets, and what it still has to give.
 use Rattle.std.specs.Prelude.{◌≡◌, ℕ, ◌+◌, ◌-◌, ◌≤◌, ◌||◌, nat_lt, Bool, true, false, if◌then◌else◌, List, [], ◌∷◌, ◌++◌, length, drop, map, slice_get, Option, Some, None, IfSome}
 use Rattle.context_timeline.specs.declared.timed_context.TimedContext.{TimedContext}
-use Rattle.context_timeline.specs.Line.{Line, IsLine}
+use Rattle.context_timeline.specs.State.{TimelineState, IsTimelineState}
 use Rattle.context_timeline.specs.Marks.{mark_in}
 use Rattle.vrt_time.specs.Time.{moment_of}
 use Rattle.sample_binder.specs.declared.leaving.Leaving.{Leaving}
@@ -20,17 +20,17 @@ use Rattle.sample_binder.specs.Sound.{HasSampling}
 -- has come
 pub record State : Type 0 where
   pub pending : ℕ
-  pub line : Line
+  pub line : TimelineState
   pub queue : List Pending
   pub leaving : Option Leaving
   pub ended : Bool
 
 -- the first of these packets need not wait
-abbrev pub is_first_due : ℕ → Line → Bool → Shape → ℕ → Bool
+abbrev pub is_first_due : ℕ → TimelineState → Bool → Shape → ℕ → Bool
 is_first_due pending line ended shape waiting = is_known line shape || nat_lt pending waiting || ended
 
 -- what the packets that wait give now: as long as the first of them need not wait, it and its runs
-abbrev pub queue_owes : ℕ → Line → Bool → List Pending → List Out
+abbrev pub queue_owes : ℕ → TimelineState → Bool → List Pending → List Out
 queue_owes pending line ended [] = []
 queue_owes pending line ended (packet ∷ rest) =
     if is_first_due pending line ended packet.shape (length (packet ∷ rest))
@@ -72,19 +72,19 @@ pub record AreShapes (queue : List Pending) : Type 0 where
 -- what is true of every queue
 pub record IsState (state : State) : Type 0 where
   pub room : length state.queue ≤ state.pending + 1
-  pub is_line : IsLine state.line
+  pub is_line : IsTimelineState state.line
   pub sound : AreSound state.line.kept
   pub shapes : AreShapes state.queue
   pub leaving : IfSome state.leaving (IsLeaving state.line (open_reason state.ended))
 
 -- how the first of the packets that wait leaves, where it need not wait
-abbrev pub first_decided : ℕ → Line → Bool → List Pending → Option Leaving
+abbrev pub first_decided : ℕ → TimelineState → Bool → List Pending → Option Leaving
 first_decided pending line ended [] = None
 first_decided pending line ended (packet ∷ rest) =
     decided line packet.shape (nat_lt pending (length (packet ∷ rest)) || ended) (open_reason ended) (mark_in line (moment_of packet.shape.stamp))
 
 -- the first of these packets needs another context, if there is one
-abbrev pub FirstWaits : Line → List Pending → Type 0
+abbrev pub FirstWaits : TimelineState → List Pending → Type 0
 FirstWaits line [] = Unit {0}
 FirstWaits line (packet ∷ rest) = is_known line packet.shape ≡ false
 

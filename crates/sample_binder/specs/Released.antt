@@ -4,7 +4,7 @@ use Rattle.vrt_words.specs.Buffer.{Buffer}
 use Rattle.vrt_time.specs.Time.{TimeStamp}
 use Rattle.difi_context.specs.declared.context.ContextRec.{ContextRec}
 use Rattle.context_timeline.specs.declared.timed_context.TimedContext.{TimedContext}
-use Rattle.context_timeline.specs.Line.{Line, with_context, timed_context}
+use Rattle.context_timeline.specs.State.{TimelineState, with_context, timed_context}
 use Rattle.sample_binder.specs.Pending.{Pending}
 use Rattle.sample_binder.specs.Calls.{shape_in}
 
@@ -12,7 +12,7 @@ use Rattle.sample_binder.specs.Calls.{shape_in}
 abbrev pub released_context : TimeStamp × ℕ × ContextRec → TimedContext
 released_context release = timed_context release.2 release.1
 
-abbrev pub with_released : Line → Option (TimeStamp × ℕ × ContextRec) → Line
+abbrev pub with_released : TimelineState → Option (TimeStamp × ℕ × ContextRec) → TimelineState
 with_released line None = line
 with_released line (Some release) = with_context line (released_context release)
 

@@ -5,7 +5,7 @@ use Rattle.vrt_fields.specs.Field.{place_of}
 use Rattle.vrt_fields.specs.declared.field.Field.TheVariants.{Format}
 use Rattle.context_timeline.specs.declared.mark.Mark.{Mark}
 use Rattle.context_timeline.specs.declared.mark.Mark.TheVariants as mark
-use Rattle.context_timeline.specs.Line.{Line}
+use Rattle.context_timeline.specs.State.{TimelineState}
 use Rattle.context_timeline.specs.Marks.{mark_in}
 use Rattle.sample_binder.specs.declared.label.Label.{Label}
 use Rattle.sample_binder.specs.declared.label.Label.TheVariants as label
@@ -59,7 +59,7 @@ same_label (label.Uncertain why) (label.Uncertain other) = same_reason why other
 same_label a b = false
 
 -- the labels of the samples of a packet
-abbrev pub label_at : Line → Reason → TimeStamp → List ℕ → ℕ → Label
+abbrev pub label_at : TimelineState → Reason → TimeStamp → List ℕ → ℕ → Label
 label_at line why stamp fields m = label_by fields why (mark_in line (capture_at stamp m (rate_in fields)))
 
 -- a stretch starts at the first sample, and where the label is not that of the sample before
@@ -93,7 +93,7 @@ run_by (label.Bound place fields) stamp first stretch =
 run_by (label.Uncertain reason) stamp first stretch =
     run.Uncertain reason stamp stretch.0 stretch.1 (capture_at stamp stretch.0 (rate_in first)) (size_in first)
 
-abbrev pub run_at : Line → Reason → TimeStamp → List ℕ → ℕ × ℕ → Run
+abbrev pub run_at : TimelineState → Reason → TimeStamp → List ℕ → ℕ × ℕ → Run
 run_at line why stamp fields stretch = run_by (label_at line why stamp fields stretch.0) stamp fields stretch
 
 -- the whole packet as one run
@@ -101,18 +101,18 @@ abbrev pub raw : Reason → Shape → List Run
 raw reason shape = run.Raw reason shape.stamp shape.pad ∷ []
 
 -- the runs where the first sample has a context with these fields
-abbrev pub runs_bound : Line → Reason → Shape → List ℕ → Option ℕ → List Run
+abbrev pub runs_bound : TimelineState → Reason → Shape → List ℕ → Option ℕ → List Run
 runs_bound line why shape fields None = raw reason.Shape shape
 runs_bound line why shape fields (Some number) =
     map (run_at line why shape.stamp fields) (cut (label_at line why shape.stamp fields) number)
 
 -- the runs, by the mark of the first sample
-abbrev pub runs_by : Line → Reason → Shape → Mark → List Run
+abbrev pub runs_by : TimelineState → Reason → Shape → Mark → List Run
 runs_by line why shape mark.Open = raw why shape
 runs_by line why shape mark.BeforeFirst = raw reason.BeforeFirst shape
 runs_by line why shape mark.TimelineFull = raw reason.TimelineFull shape
 runs_by line why shape (mark.Lost lost) = raw (reason.ContextLost lost) shape
 runs_by line why shape (mark.Bound place fields) = runs_bound line why shape fields (number_of shape (size_in fields))
 
-abbrev pub runs_of : Line → Reason → Shape → List Run
+abbrev pub runs_of : TimelineState → Reason → Shape → List Run
 runs_of line why shape = runs_by line why shape (mark_in line (moment_of shape.stamp))

@@ -1,7 +1,7 @@
 ghost use Rattle.std.specs.Prelude.{◌≡◌, ◌≢◌, ℕ, ◌+◌, ◌<◌, ◌≤◌, ◌^◌, ◌↔◌, suc, true, false, List, [], ◌∷◌, ◌++◌, Some, None, length, slice_get, IsTrue, IfOk, IfSome, IfNone, OnSome};
 ghost use Rattle.vrt_time.specs.Time.{moment_of};
 ghost use Rattle.difi_context.specs.Context.{IsInGrammar};
-ghost use Rattle.context_timeline.specs.Line.{line_of, with_context, timed_context, stamp_in, horizon_of};
+ghost use Rattle.context_timeline.specs.State.{state_of, with_context, timed_context, stamp_in, horizon_of};
 ghost use Rattle.vrt_fields.specs.declared.limits.Limits.{Limits};
 ghost use Rattle.sample_binder.specs.Events.{Event, ContextEvent, DataEvent, EndEvent};
 ghost use Rattle.sample_binder.specs.GivenOut.{out_with};
@@ -51,7 +51,7 @@ impl Binding {
         requires least { 2 ≤ kept }
         requires most { kept ≤ 4096 }
         requires few { pending ≤ 1048576 }
-        ensures { IfOk result (λ b. b ≡ record { pending = pending; line = line_of kept []; queue = []; leaving = None; ended = false }) }
+        ensures { IfOk result (λ b. b ≡ record { pending = pending; line = state_of kept []; queue = []; leaving = None; ended = false }) }
     {
         let timeline = match Timeline::open(alloc, kept) {
             Ok(timeline) => timeline,

@@ -1,5 +1,5 @@
 ghost use Rattle.std.specs.Prelude.{◌≡◌, ◌-◌, ◌<◌, ◌≤◌, ℕ, is_some, Some, None, true, false};
-ghost use Rattle.context_timeline.specs.Line.{horizon_of};
+ghost use Rattle.context_timeline.specs.State.{horizon_of};
 ghost use Rattle.context_timeline.specs.Marks.{mark_in, is_below, next_stamp};
 ghost use Rattle.vrt_time.specs.Time.{moment_of, capture_at};
 ghost use Rattle.sample_binder.specs.Sound.{HasSampling};

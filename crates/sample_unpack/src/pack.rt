@@ -17,9 +17,16 @@ pub fn pack_into(samples: &[Sample], bits: u8, into: &mut [u8])
     requires most_bits { bits ≤ 16 }
     requires fits { All (SampleFits bits) samples.now }
     requires whole_words { length into.old ≡ 4 * words_for bits (length samples.now) }
-    ensures packed { bits_of_bytes into.new ≡ bits_of_samples bits samples.now ++ replicate (8 * length into.old - 2 * bits * length samples.now) 0 }
-    ensures read_back { samples_from bits (bits_of_bytes into.new) 0 (length samples.now) ≡ samples.now }
-    ensures again { (payload : List ℕ) (first : ℕ) → LieWithin bits first (length samples.now) (length payload) → samples.now ≡ samples_from bits (bits_of_bytes payload) first (length samples.now) → bits_from bits (bits_of_bytes into.new) 0 (length samples.now) ≡ bits_from bits (bits_of_bytes payload) first (length samples.now) }
+    ensures packed { bits_of_bytes into.new
+        ≡ bits_of_samples bits samples.now
+        ++ replicate (8 * length into.old - 2 * bits * length samples.now) 0 }
+    ensures read_back { samples_from bits (bits_of_bytes into.new) 0 (length samples.now)
+        ≡ samples.now }
+    ensures again { (payload : List ℕ) (first : ℕ)
+        → LieWithin bits first (length samples.now) (length payload)
+        → samples.now ≡ samples_from bits (bits_of_bytes payload) first (length samples.now)
+        → bits_from bits (bits_of_bytes into.new) 0 (length samples.now)
+        ≡ bits_from bits (bits_of_bytes payload) first (length samples.now) }
 {
     pack_by_width(samples, bits, into);
 }
@@ -31,7 +38,9 @@ fn pack_by_width(samples: &[Sample], bits: u8, into: &mut [u8])
     requires most_bits { bits ≤ 16 }
     requires fits { All (SampleFits bits) samples.now }
     requires whole_words { length into.old ≡ 4 * words_for bits (length samples.now) }
-    ensures { bits_of_bytes into.new ≡ bits_of_samples bits samples.now ++ replicate (8 * length into.old - 2 * bits * length samples.now) 0 }
+    ensures { bits_of_bytes into.new
+        ≡ bits_of_samples bits samples.now
+        ++ replicate (8 * length into.old - 2 * bits * length samples.now) 0 }
 {
     match bits {
         4 => pack_items(samples, 4, into),
@@ -54,7 +63,9 @@ fn pack_by_width(samples: &[Sample], bits: u8, into: &mut [u8])
 fn pack_bytes(samples: &[Sample], into: &mut [u8])
     requires fits { All (SampleFits 8) samples.now }
     requires whole_words { length into.old ≡ 4 * words_for 8 (length samples.now) }
-    ensures { bits_of_bytes into.new ≡ bits_of_samples 8 samples.now ++ replicate (8 * length into.old - 16 * length samples.now) 0 }
+    ensures { bits_of_bytes into.new
+        ≡ bits_of_samples 8 samples.now
+        ++ replicate (8 * length into.old - 16 * length samples.now) 0 }
 {
     for (index, sample) in samples.iter().enumerate() {
         put_half(into, 2 * index, items_of(*sample, 8) as u16);
@@ -68,7 +79,9 @@ fn pack_bytes(samples: &[Sample], into: &mut [u8])
 fn pack_halves(samples: &[Sample], into: &mut [u8])
     requires fits { All (SampleFits 16) samples.now }
     requires whole_words { length into.old ≡ 4 * words_for 16 (length samples.now) }
-    ensures { bits_of_bytes into.new ≡ bits_of_samples 16 samples.now ++ replicate (8 * length into.old - 32 * length samples.now) 0 }
+    ensures { bits_of_bytes into.new
+        ≡ bits_of_samples 16 samples.now
+        ++ replicate (8 * length into.old - 32 * length samples.now) 0 }
 {
     for (index, sample) in samples.iter().enumerate() {
         put_word(into, 4 * index, items_of(*sample, 16));
@@ -82,7 +95,9 @@ fn pack_items(samples: &[Sample], width: u32, into: &mut [u8])
     requires most { width ≤ 16 }
     requires fits { All (SampleFits width) samples.now }
     requires whole_words { length into.old ≡ 4 * words_for width (length samples.now) }
-    ensures { bits_of_bytes into.new ≡ bits_of_samples width samples.now ++ replicate (8 * length into.old - 2 * width * length samples.now) 0 }
+    ensures { bits_of_bytes into.new
+        ≡ bits_of_samples width samples.now
+        ++ replicate (8 * length into.old - 2 * width * length samples.now) 0 }
 {
     let size = 2 * width;
     let mut words = 0;

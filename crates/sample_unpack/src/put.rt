@@ -32,7 +32,9 @@ pub(crate) fn put_last(into: &mut [u8], words: usize, waiting: u64, held: u32)
     requires held { held < 32 }
     requires fits { waiting < 2 ^ held }
     requires whole_words { length into.old ≡ 4 * ((32 * words + held + 31) / 32) }
-    ensures { bits_of_bytes into.new ≡ (bits_of_bytes (take (4 * words) into.old) ++ bits_of held waiting) ++ replicate (8 * length into.old - (32 * words + held)) 0 }
+    ensures { bits_of_bytes into.new
+        ≡ (bits_of_bytes (take (4 * words) into.old) ++ bits_of held waiting)
+        ++ replicate (8 * length into.old - (32 * words + held)) 0 }
 {
     if held > 0 {
         put_word(into, 4 * words, (waiting << (32 - held)) as u32);
@@ -43,7 +45,8 @@ pub(crate) fn put_last(into: &mut [u8], words: usize, waiting: u64, held: u32)
 #[inline]
 pub(crate) fn put_word(into: &mut [u8], at: usize, word: u32)
     requires { at + 4 ≤ length into.old }
-    ensures { bits_of_bytes (take (at + 4) into.new) ≡ bits_of_bytes (take at into.old) ++ bits_of 32 word }
+    ensures { bits_of_bytes (take (at + 4) into.new)
+        ≡ bits_of_bytes (take at into.old) ++ bits_of 32 word }
 {
     BigEndian::write_u32(&mut into[at..], word);
 }
@@ -52,7 +55,8 @@ pub(crate) fn put_word(into: &mut [u8], at: usize, word: u32)
 #[inline]
 pub(crate) fn put_half(into: &mut [u8], at: usize, half: u16)
     requires { at + 2 ≤ length into.old }
-    ensures { bits_of_bytes (take (at + 2) into.new) ≡ bits_of_bytes (take at into.old) ++ bits_of 16 half }
+    ensures { bits_of_bytes (take (at + 2) into.new)
+        ≡ bits_of_bytes (take at into.old) ++ bits_of 16 half }
 {
     BigEndian::write_u16(&mut into[at..], half);
 }
@@ -61,7 +65,8 @@ pub(crate) fn put_half(into: &mut [u8], at: usize, half: u16)
 #[inline]
 pub(crate) fn put_double(into: &mut [u8], at: usize, double: u64)
     requires { at + 8 ≤ length into.old }
-    ensures { bits_of_bytes (take (at + 8) into.new) ≡ bits_of_bytes (take at into.old) ++ bits_of 64 double }
+    ensures { bits_of_bytes (take (at + 8) into.new)
+        ≡ bits_of_bytes (take at into.old) ++ bits_of 64 double }
 {
     BigEndian::write_u64(&mut into[at..], double);
 }

@@ -13,7 +13,8 @@ pub fn unpack_into(payload: &[u8], bits: u8, first: u32, into: &mut [Sample])
     requires some_bits { 4 ≤ bits }
     requires most_bits { bits ≤ 16 }
     requires within { LieWithin bits first (length into.old) (length payload.now) }
-    ensures samples { into.new ≡ samples_from bits (bits_of_bytes payload.now) first (length into.old) }
+    ensures samples { into.new
+        ≡ samples_from bits (bits_of_bytes payload.now) first (length into.old) }
     ensures fit { All (SampleFits bits) into.new }
 {
     unpack_by_width(payload, bits, first, into);
@@ -97,8 +98,10 @@ fn unpack_items(payload: &[u8], width: u32, first: u32, into: &mut [Sample])
 fn unpack_fours(payload: &[u8], width: u32, start: usize, into: &mut [Sample])
     requires some { 1 ≤ width }
     requires most { width ≤ 16 }
-    requires within { 0 < length into.old → 8 * start + 2 * width * length into.old ≤ 8 * length payload.now }
-    ensures { into.new ≡ samples_from width (drop (8 * start) (bits_of_bytes payload.now)) 0 (length into.old) }
+    requires within { 0 < length into.old
+        → 8 * start + 2 * width * length into.old ≤ 8 * length payload.now }
+    ensures { into.new
+        ≡ samples_from width (drop (8 * start) (bits_of_bytes payload.now)) 0 (length into.old) }
 {
     let mut at = start;
     let mut done = 0;
@@ -129,8 +132,11 @@ fn unpack_each(payload: &[u8], width: u32, at: usize, offset: u32, into: &mut [S
     requires some { 1 ≤ width }
     requires most { width ≤ 16 }
     requires offset { offset < 8 }
-    requires within { 0 < length into.old → 8 * at + offset + 2 * width * length into.old ≤ 8 * length payload.now }
-    ensures { into.new ≡ samples_from width (drop (8 * at + offset) (bits_of_bytes payload.now)) 0 (length into.old) }
+    requires within { 0 < length into.old
+        → 8 * at + offset + 2 * width * length into.old ≤ 8 * length payload.now }
+    ensures { into.new
+        ≡ samples_from width (drop (8 * at + offset) (bits_of_bytes payload.now)) 0
+        (length into.old) }
 {
     let mut at = at;
     let mut offset = offset;

@@ -18,7 +18,8 @@ pub(crate) fn two_at(payload: &[u8], at: usize, bit: u32, width: u32) -> u64
     requires window { bit % 8 + 4 * width ≤ 64 }
     requires within { at + bit / 8 + 8 ≤ length payload.now }
     ensures { bits_of 64 result
-        ≡ bits_of_samples 16 (samples_from width (drop (8 * at + bit) (bits_of_bytes payload.now)) 0 2) }
+        ≡ bits_of_samples 16 (samples_from width
+        (drop (8 * at + bit) (bits_of_bytes payload.now)) 0 2) }
 {
     let window = BigEndian::read_u64(&payload[at + (bit / 8) as usize..]);
     widened(four_in(window, bit % 8, width), width)
@@ -31,7 +32,8 @@ fn widened(items: u64, width: u32) -> u64
     requires some { 1 ≤ width }
     requires most { width ≤ 16 }
     requires fits { items < 2 ^ (4 * width) }
-    ensures { bits_of 64 result ≡ bits_of_samples 16 (samples_from width (bits_of (4 * width) items) 0 2) }
+    ensures { bits_of 64 result
+        ≡ bits_of_samples 16 (samples_from width (bits_of (4 * width) items) 0 2) }
 {
     let apart = apart(items, width);
     let signs = apart & (ONES << (width - 1));

@@ -19,7 +19,8 @@ pub fn widen_into(payload: &[u8], bits: u8, first: u32, into: &mut [u8])
     requires whole_samples { length into.old % 4 ≡ 0 }
     requires within { LieWithin bits first (length into.old / 4) (length payload.now) }
     ensures { bits_of_bytes into.new
-        ≡ bits_of_samples 16 (samples_from bits (bits_of_bytes payload.now) first (length into.old / 4)) }
+        ≡ bits_of_samples 16 (samples_from bits (bits_of_bytes payload.now) first
+        (length into.old / 4)) }
 {
     match bits {
         4 => widen_items(payload, 4, first, into),
@@ -43,7 +44,8 @@ fn widen_bytes(payload: &[u8], first: u32, into: &mut [u8])
     requires whole_samples { length into.old % 4 ≡ 0 }
     requires within { LieWithin 8 first (length into.old / 4) (length payload.now) }
     ensures { bits_of_bytes into.new
-        ≡ bits_of_samples 16 (samples_from 8 (bits_of_bytes payload.now) first (length into.old / 4)) }
+        ≡ bits_of_samples 16 (samples_from 8 (bits_of_bytes payload.now) first
+        (length into.old / 4)) }
 {
     let first = first as usize;
     for index in 0..into.len() / 4 {
@@ -66,7 +68,8 @@ fn copy_halves(payload: &[u8], first: u32, into: &mut [u8])
     requires whole_samples { length into.old % 4 ≡ 0 }
     requires within { LieWithin 16 first (length into.old / 4) (length payload.now) }
     ensures { bits_of_bytes into.new
-        ≡ bits_of_samples 16 (samples_from 16 (bits_of_bytes payload.now) first (length into.old / 4)) }
+        ≡ bits_of_samples 16 (samples_from 16 (bits_of_bytes payload.now) first
+        (length into.old / 4)) }
 {
     if !into.is_empty() {
         let start = 4 * first as usize;
@@ -82,7 +85,8 @@ fn widen_items(payload: &[u8], width: u32, first: u32, into: &mut [u8])
     requires whole_samples { length into.old % 4 ≡ 0 }
     requires within { LieWithin width first (length into.old / 4) (length payload.now) }
     ensures { bits_of_bytes into.new
-        ≡ bits_of_samples 16 (samples_from width (bits_of_bytes payload.now) first (length into.old / 4)) }
+        ≡ bits_of_samples 16 (samples_from width (bits_of_bytes payload.now) first
+        (length into.old / 4)) }
 {
     let start = u64::from(2 * width) * u64::from(first);
     let next_four = (u64::from(first) + 3) / 4;
@@ -108,9 +112,11 @@ fn widen_fours(payload: &[u8], width: u32, start: usize, into: &mut [u8])
     requires some { 1 ≤ width }
     requires most { width ≤ 16 }
     requires whole_samples { length into.old % 4 ≡ 0 }
-    requires within { 0 < length into.old → 8 * start + 2 * width * (length into.old / 4) ≤ 8 * length payload.now }
+    requires within { 0 < length into.old
+        → 8 * start + 2 * width * (length into.old / 4) ≤ 8 * length payload.now }
     ensures { bits_of_bytes into.new
-        ≡ bits_of_samples 16 (samples_from width (drop (8 * start) (bits_of_bytes payload.now)) 0 (length into.old / 4)) }
+        ≡ bits_of_samples 16 (samples_from width (drop (8 * start) (bits_of_bytes payload.now)) 0
+        (length into.old / 4)) }
 {
     let fours = whole_fours(payload.len(), start, width as usize, into.len());
     for index in 0..fours {
@@ -145,9 +151,11 @@ fn widen_each(payload: &[u8], width: u32, at: usize, offset: u32, into: &mut [u8
     requires most { width ≤ 16 }
     requires offset { offset < 8 }
     requires whole_samples { length into.old % 4 ≡ 0 }
-    requires within { 0 < length into.old → 8 * at + offset + 2 * width * (length into.old / 4) ≤ 8 * length payload.now }
+    requires within { 0 < length into.old
+        → 8 * at + offset + 2 * width * (length into.old / 4) ≤ 8 * length payload.now }
     ensures { bits_of_bytes into.new
-        ≡ bits_of_samples 16 (samples_from width (drop (8 * at + offset) (bits_of_bytes payload.now)) 0 (length into.old / 4)) }
+        ≡ bits_of_samples 16 (samples_from width
+        (drop (8 * at + offset) (bits_of_bytes payload.now)) 0 (length into.old / 4)) }
 {
     let mut at = at;
     let mut offset = offset;

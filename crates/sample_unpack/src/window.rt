@@ -21,7 +21,8 @@ fn last_window(rest: &[u8]) -> u64
 #[inline]
 fn window_at(payload: &[u8], at: usize) -> u64
     requires { at ≤ length payload.now }
-    ensures { bits_of 64 result ≡ take 64 (drop (8 * at) (bits_of_bytes payload.now) ++ replicate 64 0) }
+    ensures { bits_of 64 result
+        ≡ take 64 (drop (8 * at) (bits_of_bytes payload.now) ++ replicate 64 0) }
 {
     let rest = &payload[at..];
     if rest.len() < 8 {
@@ -37,7 +38,8 @@ fn items_in(window: u64, offset: u32, width: u32) -> u32
     requires most { width ≤ 16 }
     requires within { offset + 2 * width ≤ 64 }
     ensures fits { result < 2 ^ (2 * width) }
-    ensures items { bits_of (2 * width) result ≡ take (2 * width) (drop offset (bits_of 64 window)) }
+    ensures items { bits_of (2 * width) result
+        ≡ take (2 * width) (drop offset (bits_of 64 window)) }
 {
     ((window << offset) >> (64 - 2 * width)) as u32
 }
@@ -49,7 +51,8 @@ pub(crate) fn four_in(window: u64, offset: u32, width: u32) -> u64
     requires most { width ≤ 16 }
     requires within { offset + 4 * width ≤ 64 }
     ensures fits { result < 2 ^ (4 * width) }
-    ensures items { bits_of (4 * width) result ≡ take (4 * width) (drop offset (bits_of 64 window)) }
+    ensures items { bits_of (4 * width) result
+        ≡ take (4 * width) (drop offset (bits_of 64 window)) }
 {
     (window << offset) >> (64 - 4 * width)
 }

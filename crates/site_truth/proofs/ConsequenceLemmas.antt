@@ -6,7 +6,7 @@ use Rattle.std.specs.List.{range_with_len}
 use Rattle.vrt_time.specs.Time.{moment_of}
 use Rattle.vrt_header.specs.Profile.{PacketProfile}
 use Rattle.vrt_words.specs.Buffer.{Buffer}
-use Rattle.context_timeline.specs.Line.{IsRising}
+use Rattle.context_timeline.specs.State.{IsRising}
 use Rattle.reorder_window.specs.Delivery.{occurs, number_absent}
 use Rattle.reorder_window.proofs.OrderLemmas.{ltb-false}
 use Rattle.sample_binder.specs.declared.out.Out.{Out}

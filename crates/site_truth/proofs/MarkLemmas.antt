@@ -7,11 +7,11 @@ use Rattle.vrt_time.specs.Time.{moment_of}
 use Rattle.context_timeline.specs.declared.timed_context.TimedContext.{TimedContext}
 use Rattle.context_timeline.specs.declared.mark.Mark.{Mark}
 use Rattle.context_timeline.specs.declared.mark.Mark.TheVariants as mark
-use Rattle.context_timeline.specs.AllContexts.{AllKeptAfter, NoKeptAfter, IsBetween, IsLost, IsBound, IsMark}
-use Rattle.context_timeline.specs.Line.{IsRising, line_of, moments, keep_last}
+use Rattle.context_timeline.specs.AllContexts.{AllKeptAfter, NoKeptAfter, IsBetween, IsLost, IsBoundMark, IsMark}
+use Rattle.context_timeline.specs.State.{IsRising, state_of, moments, keep_last}
 use Rattle.context_timeline.specs.Marks.{mark_in}
 use Rattle.context_timeline.proofs.AllContextsLaws.{IsMark-mark_in}
-use Rattle.context_timeline.proofs.LineLaws.{moment_at}
+use Rattle.context_timeline.proofs.StateLaws.{moment_at}
 use Rattle.reorder_window.specs.Delivery.{IsSent, occurs, number_absent}
 use Rattle.reorder_window.proofs.OrderLemmas.{ltb-true}
 use Rattle.sample_binder.specs.Events.{contexts_of}
@@ -260,7 +260,7 @@ module _ (delivery : Delivery) (known : AreContextsKnown delivery) (told : AreCo
         let after : t < moment (at i) = omega (arith, h i (record { added = omega (arith, long); last = omega (arith, long, late, long_numbers) }), moment_told i lt) in
         ap (λ k. nat_lt t (context_moment site k)) (first_numbers i lt) ∙ ltb-true t (moment (at i)) after)
 
-    bound_told : (t place : ℕ) (fields : List ℕ) → IsBound kept contexts t place fields → AreInForce delivery t fields × AreFieldsAt contexts place fields
+    bound_told : (t place : ℕ) (fields : List ℕ) → IsBoundMark kept contexts t place fields → AreInForce delivery t fields × AreFieldsAt contexts place fields
     bound_told t place fields h =
         let r = around t place h.a h.b h.between in
         let are : fields ≡ fields_at site (at place) = h.fields_told ∙ ap (λ (x : TimedContext). x.fields) r.1 in
@@ -288,5 +288,5 @@ module _ (delivery : Delivery) (known : AreContextsKnown delivery) (told : AreCo
     mark_told t (mark.Bound place fields) h = bound_told t place fields h
 
     -- the mark of a moment is true
-    pub mark_is_true : (t : ℕ) → IsTrueMark delivery (take c told.numbers) contexts t (mark_in (line_of kept contexts) t)
-    mark_is_true t = mark_told t (mark_in (line_of kept contexts) t) (IsMark-mark_in kept contexts t rise)
+    pub mark_is_true : (t : ℕ) → IsTrueMark delivery (take c told.numbers) contexts t (mark_in (state_of kept contexts) t)
+    mark_is_true t = mark_told t (mark_in (state_of kept contexts) t) (IsMark-mark_in kept contexts t rise)

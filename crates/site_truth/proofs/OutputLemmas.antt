@@ -5,7 +5,7 @@ use Rattle.std.proofs.lemmas.Bool.Decides.{nat_tests}
 use Rattle.std.proofs.lemmas.List.{append-nil, get_or-take, length-take-le, take-append-le, take-append-drop, take_all}
 use Rattle.std.proofs.lemmas.Option.{slice_get_cases}
 use Rattle.vrt_header.specs.Profile.{PacketProfile}
-use Rattle.context_timeline.specs.Line.{line_of, timed_context}
+use Rattle.context_timeline.specs.State.{state_of, timed_context}
 use Rattle.context_timeline.specs.Marks.{mark_in}
 use Rattle.context_timeline.specs.declared.timed_context.TimedContext.{TimedContext}
 use Rattle.reorder_window.specs.Delivery.{occurs}
@@ -168,7 +168,7 @@ module _ (delivery : Delivery) (h : IsGivenTrue delivery) where
 
     marks : (t : ℕ) → IsTrueMark delivery left.contexts (contexts_of seen) t (mark_in (line_after kept seen) t)
     marks t =
-        subst (λ (cs : List TimedContext). IsTrueMark delivery left.contexts cs t (mark_in (line_of kept cs) t)) (sym (contexts_first (suc e) events))
+        subst (λ (cs : List TimedContext). IsTrueMark delivery left.contexts cs t (mark_in (state_of kept cs) t)) (sym (contexts_first (suc e) events))
         (mark_is_true delivery h.known h.contexts c few t)
 
     case : IsDueEvent delivery.limits events j e

@@ -9,7 +9,7 @@ use Rattle.vrt_fields.specs.declared.field.Field.TheVariants.{Format}
 use Rattle.context_timeline.specs.declared.timed_context.TimedContext.{TimedContext}
 use Rattle.context_timeline.specs.declared.mark.Mark.{Mark}
 use Rattle.context_timeline.specs.declared.mark.Mark.TheVariants as mark
-use Rattle.context_timeline.specs.Line.{Line, horizon_of}
+use Rattle.context_timeline.specs.State.{TimelineState, horizon_of}
 use Rattle.context_timeline.specs.Marks.{mark_in, mark_below, mark_between, last_not_after, is_below, healed}
 use Rattle.reorder_window.proofs.OrderLemmas.{ltb-true, ltb_tells}
 use Rattle.sample_binder.specs.declared.label.Label.{Label}
@@ -46,12 +46,12 @@ between-not_open place (Some a) None e = cc
 between-not_open place None (Some b) e = cc
 between-not_open place None None e = cc
 
-below-not_open : (line : Line) (o : Option ℕ) → mark_below line o ≡ mark.Open → ⊥
+below-not_open : (line : TimelineState) (o : Option ℕ) → mark_below line o ≡ mark.Open → ⊥
 below-not_open line None e = mark_before-not_open (nat_lt line.limit line.added) e
 below-not_open line (Some k) e = between-not_open (line.added - length line.kept + k) (slice_get line.kept k) (slice_get line.kept (k + 1)) e
 
 -- an open moment is not below the horizon
-open_above : (line : Line) (t : ℕ) → mark_in line t ≡ mark.Open → is_below t (horizon_of line) ≡ true → ⊥
+open_above : (line : TimelineState) (t : ℕ) → mark_in line t ≡ mark.Open → is_below t (horizon_of line) ≡ true → ⊥
 open_above line t e below =
     below-not_open line (last_not_after line.kept t) (sym (ap (λ b. cond b (mark_below line (last_not_after line.kept t)) mark.Open) below) ∙ e)
 
@@ -120,13 +120,13 @@ sampling_test a b h =
 
 -- what is known when a packet leaves: the marks are true; and where it is open, the reason has its cause, if it was not known how
 -- the packet leaves
-pub record IsLeaving (delivery : Delivery) (left : Left) (n : ℕ) (contexts : List TimedContext) (line : Line) (why : Reason) : Type 0 where
+pub record IsLeaving (delivery : Delivery) (left : Left) (n : ℕ) (contexts : List TimedContext) (line : TimelineState) (why : Reason) : Type 0 where
   pub marks : (t : ℕ) → IsTrueMark delivery left.contexts contexts t (mark_in line t)
   pub opens : (t : ℕ) → is_known line (shape_in (packet_stamp delivery.site n) (delivery.site.packet n)) ≡ false → NoneOfThemAfter delivery left.contexts t → IsCause delivery left t why
   pub steady : IsSteady delivery.site n
   pub rates : (k : ℕ) → k < delivery.site.contexts_sent → 0 < rate_in (fields_at delivery.site k)
 
-module _ (delivery : Delivery) (left : Left) (n : ℕ) (contexts : List TimedContext) (line : Line) (why : Reason) (h : IsLeaving delivery left n contexts line why) where
+module _ (delivery : Delivery) (left : Left) (n : ℕ) (contexts : List TimedContext) (line : TimelineState) (why : Reason) (h : IsLeaving delivery left n contexts line why) where
   abbrev site : Site
   site = delivery.site
 

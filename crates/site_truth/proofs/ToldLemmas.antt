@@ -4,7 +4,7 @@ use Rattle.std.proofs.Common.{◌≡◌, ℕ, ◌<◌, ◌≤◌, List, [], ◌�
 use Rattle.std.proofs.lemmas.List.{length-map, take-append-drop}
 use Rattle.vrt_header.specs.Profile.{PacketProfile}
 use Rattle.context_timeline.specs.declared.timed_context.TimedContext.{TimedContext}
-use Rattle.context_timeline.specs.Line.{timed_context}
+use Rattle.context_timeline.specs.State.{timed_context}
 use Rattle.reorder_window.specs.Delivery.{IsSent}
 use Rattle.sample_binder.specs.Calls.{data_stamp, shape_in, all_releases}
 use Rattle.sample_binder.specs.Events.{Event, EndEvent, contexts_of, packets_of, has_ended}

@@ -1,7 +1,7 @@
 -- Why no context is given for a moment.
 use Rattle.std.specs.Prelude.{◌≡◌, ℕ, suc, ◌+◌, ◌<◌, ◌≤◌, nat_lt, true, false, List, length, take, filter, slice_get, slice_index, Some}
 use Rattle.context_timeline.specs.declared.timed_context.TimedContext.{TimedContext}
-use Rattle.context_timeline.specs.Line.{timed_context}
+use Rattle.context_timeline.specs.State.{timed_context}
 use Rattle.sample_binder.specs.declared.reason.Reason.{Reason}
 use Rattle.sample_binder.specs.declared.reason.Reason.TheVariants.{BeforeFirst, ContextLost, PendingFull, TimelineFull, Ended, FormatChanged, Shape}
 use Rattle.sample_binder.specs.Due.{due}

@@ -3,7 +3,7 @@ use Rattle.std.specs.Prelude.{◌≡◌, ℕ, zero, suc, ◌<◌, true, false, L
 use Rattle.vrt_words.specs.Buffer.{Buffer}
 use Rattle.vrt_fields.specs.declared.limits.Limits.{Limits}
 use Rattle.vrt_fields.specs.Limits.{AreLimits}
-use Rattle.context_timeline.specs.Line.{IsRising}
+use Rattle.context_timeline.specs.State.{IsRising}
 use Rattle.reorder_window.specs.declared.entry.Entry.{Entry}
 use Rattle.reorder_window.specs.Delivery.{occurs, IsDelivery, number_absent}
 use Rattle.sample_binder.specs.Calls.{Call, EndCall, context_arrivals, data_arrivals, data_entry, is_told, events_of}

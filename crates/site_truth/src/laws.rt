@@ -63,8 +63,10 @@ pub fn bound_contexts_are_known()
         → (at : ℕ) (run : Run) → slice_get part.runs at ≡ Some run
         → (sample : ℕ) → Binds run sample
         → (context in_force : ℕ)
-        → IsInForce delivery.site (packet_moment delivery.site (slice_index truth.packets place)) context
-        → IsInForce delivery.site (sample_moment delivery.site (slice_index truth.packets place) context sample) in_force
+        → IsInForce delivery.site
+        (packet_moment delivery.site (slice_index truth.packets place)) context
+        → IsInForce delivery.site
+        (sample_moment delivery.site (slice_index truth.packets place) context sample) in_force
         → IsKnown delivery in_force }
 {}
 

@@ -20,7 +20,8 @@ pub fn ports_are_those_of_the_route()
     ensures at { (routes : List Route) (stream index : ℕ) → AreRoutes true routes
         → IsRouteAt routes stream index → ports_of routes stream ≡ ports_at routes index }
     ensures number { (routes : List Route) (index : ℕ) (route : Route) → AreRoutes true routes
-        → slice_get routes index ≡ Some route → length (ports_of routes route.stream) ≡ route.number }
+        → slice_get routes index ≡ Some route
+        → length (ports_of routes route.stream) ≡ route.number }
     ensures some { (routes : List Route) (stream index : ℕ) → AreRoutes true routes
         → IsRouteAt routes stream index → 1 ≤ length (ports_of routes stream) }
     ensures few { (routes : List Route) (stream index : ℕ) → AreRoutes true routes
@@ -31,9 +32,11 @@ pub fn ports_are_those_of_the_route()
 /// where it is not listed, it has no route.
 #[inline]
 pub fn without_a_route_no_ports()
-    ensures ports { (routes : List Route) (stream : ℕ) → ((index : ℕ) → ¬ IsRouteAt routes stream index)
+    ensures ports { (routes : List Route) (stream : ℕ)
+        → ((index : ℕ) → ¬ IsRouteAt routes stream index)
         → ports_of routes stream ≡ [] }
-    ensures listed { (routes : List Route) (stream : ℕ) → ((index : ℕ) → ¬ IsRouteAt routes stream index)
+    ensures listed { (routes : List Route) (stream : ℕ)
+        → ((index : ℕ) → ¬ IsRouteAt routes stream index)
         → is_listed routes stream ≡ false }
     ensures absent { (routes : List Route) (stream index : ℕ) → is_listed routes stream ≡ false
         → ¬ IsRouteAt routes stream index }

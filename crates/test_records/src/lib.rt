@@ -155,7 +155,7 @@ pub fn routed() -> [u32; 85] {
     words
 }
 
-/// The same in form 2, in front of the route.
+/// The header of a record with one route in form 2, in front of the route.
 pub fn second_form() -> [u32; 83] {
     let mut words = HEADER;
     words[FORM] = SECOND;

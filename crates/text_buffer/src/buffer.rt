@@ -7,7 +7,7 @@ ghost use Rattle.vrt_fields.specs.Text.{field_text};
 use std::alloc::Global;
 use std::marker::Model;
 use vrt_fields::{
-    Field, hexadecimal_of, push_decimal, push_hexadecimal, push_padded, push_text, text_of,
+    Field, hexadecimal_of, push_decimal, push_hexadecimal, push_padded, push_text, push_text_of,
 };
 use vrt_words::NoMemory;
 
@@ -113,15 +113,12 @@ impl TextBuffer {
     }
 
     /// Puts the text of a field behind the bytes.
-    pub fn push_field(&mut self, alloc: Global, field: Field, value: u64)
+    pub fn push_field(&mut self, field: Field, value: u64)
         requires room { length self.old + 80 ≤ 327680 }
         requires fits { width_of field ≡ 1 → value < 2 ^ 32 }
         ensures text { self.new ≡ self.old ++ field_text field value }
         ensures length { length self.new ≤ length self.old + 80 }
     {
-        match text_of(alloc, field, value, &mut self.bytes) {
-            Ok(()) => {}
-            Err(NoMemory) => unreachable!(),
-        }
+        push_text_of(field, value, &mut self.bytes);
     }
 }

@@ -25,7 +25,7 @@ fn texts_stand_one_behind_another(rt: HostRuntime) -> Result<(), NoMemory> {
 fn a_field_has_its_text(rt: HostRuntime) -> Result<(), NoMemory> {
     let alloc = rt.alloc();
     let mut out = TextBuffer::open(alloc)?;
-    out.push_field(alloc, Field::SampleRate, 1 << 20);
+    out.push_field(Field::SampleRate, 1 << 20);
     let text = b"sample rate 1 Hz + 0/1048576";
     assert_eq!(rt; out.as_slice(), text.as_slice());
     Ok(())

@@ -54,7 +54,8 @@ impl FieldSet {
         requires { width_of field ≡ 1 → value < 2 ^ 32 }
         ensures list { self.new ≡ slice_set self.old (index_of field) (Some value) }
         ensures there { value_of self.new field ≡ Some value }
-        ensures others { (other : Field) → other ≢ field → value_of self.new other ≡ value_of self.old other }
+        ensures others { (other : Field) → other ≢ field
+            → value_of self.new other ≡ value_of self.old other }
     {
         self.values[field.number()] = Some(value);
     }
@@ -63,7 +64,8 @@ impl FieldSet {
     pub fn remove(&mut self, field: Field)
         ensures list { self.new ≡ slice_set self.old (index_of field) None }
         ensures gone { value_of self.new field ≡ None }
-        ensures others { (other : Field) → other ≢ field → value_of self.new other ≡ value_of self.old other }
+        ensures others { (other : Field) → other ≢ field
+            → value_of self.new other ≡ value_of self.old other }
     {
         self.values[field.number()] = None;
     }
@@ -94,9 +96,11 @@ impl FieldSet {
         requires there { 4 * (at + width_of_mask cif0) ≤ length bytes.now }
         ensures set { IsFieldSet result }
         ensures mask { mask_of result ≡ cif0 }
-        ensures words { words_of_set result ≡ take (width_of_mask cif0) (drop at (words_of bytes.now)) }
+        ensures words { words_of_set result
+            ≡ take (width_of_mask cif0) (drop at (words_of bytes.now)) }
         ensures only { (other : FieldValues) → IsFieldSet other → mask_of other ≡ cif0
-            → words_of_set other ≡ take (width_of_mask cif0) (drop at (words_of bytes.now)) → result ≡ other }
+            → words_of_set other ≡ take (width_of_mask cif0) (drop at (words_of bytes.now))
+            → result ≡ other }
     {
         let mut words = [0; MOST];
         let width = mask_width(cif0);

@@ -72,7 +72,8 @@ pub fn raw_rate(words: &[u32; 19]) -> u64
 /// The sample rate among the words of all fields, in units of 2^-20 Hz.
 #[inline]
 pub fn rate_of(words: &[u32; 19]) -> i64
-    requires { IsRate (slice_index words.now (place_of SampleRate)) (slice_index words.now (place_of SampleRate + 1)) }
+    requires { IsRate (slice_index words.now (place_of SampleRate))
+        (slice_index words.now (place_of SampleRate + 1)) }
     ensures rate { result ≡ pos (rate_in words.now) }
     ensures least { pos (2 ^ 20) ≤ℤ result }
 {

@@ -28,7 +28,8 @@ impl PayloadFormat {
         ensures only { (format : PayloadFormat) → IsFormat format first second
             → result ≡ Ok format }
         ensures wrong { IfErr result (λ place. IsFormatRefused first second place.word) }
-        ensures refused { IfErr result (λ place. IsRefusedAt IsFormatWords (first ∷ second ∷ []) place.word) }
+        ensures refused { IfErr result (λ place.
+            IsRefusedAt IsFormatWords (first ∷ second ∷ []) place.word) }
     {
         let Some(format) = format_of_first(first) else {
             return Err(Place { word: 0 });

@@ -6,12 +6,8 @@ mod field;
 mod field_set;
 mod field_words;
 mod format;
-#[cfg(test)]
-mod format_tests;
 mod laws;
 mod limit;
-#[cfg(test)]
-mod limit_tests;
 mod limits;
 mod number_text;
 mod round_trip;
@@ -20,8 +16,6 @@ mod route;
 mod tests;
 mod text;
 mod values;
-#[cfg(test)]
-mod words_tests;
 
 pub use crate::field::Field;
 pub use crate::field_set::FieldSet;
@@ -40,5 +34,5 @@ pub use crate::number_text::{
 };
 pub use crate::round_trip::{one_set_for_words, written_and_read};
 pub use crate::route::Route;
-pub use crate::text::text_of;
+pub use crate::text::{push_text_of, text_of};
 pub use crate::values::{bit_under, field_at, is_field_mask, mask_number, mask_width};

@@ -1,6 +1,10 @@
 ghost use Rattle.std.specs.Prelude.{◌≡◌, ◌<◌, ◌^◌};
 ghost use Rattle.vrt_fields.specs.Field.{width_of};
 
+mod format;
+mod limit;
+mod words;
+
 use super::*;
 use std::alloc::Global;
 use vrt_words::{NoMemory, Place};

@@ -26,9 +26,20 @@ pub fn text_of(_alloc: Global, field: Field, value: u64, into: &mut Vec<u8>) -> 
     if into.reserve(MOST).is_err() {
         return Err(NoMemory);
     }
+    push_text_of(field, value, into);
+    Ok(())
+}
+
+/// Puts the text of a field behind the bytes, as `text_of` does, where there is room for 80 bytes.
+pub fn push_text_of(field: Field, value: u64, into: &mut Vec<u8>)
+    requires room { vec_len into.old + 80 ≤ vec_capacity into.old }
+    requires fits { width_of field ≡ 1 → value < 2 ^ 32 }
+    ensures text { into.new.items ≡ into.old.items ++ field_text field value }
+    ensures length { vec_len into.new ≤ vec_len into.old + 80 }
+    ensures capacity { vec_capacity into.old ≤ vec_capacity into.new }
+{
     push_text(into, name_of(field));
     push_value(into, field, value);
-    Ok(())
 }
 
 // What the field is called.

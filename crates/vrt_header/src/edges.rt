@@ -26,7 +26,7 @@ fn place_in(profile: Profile, bytes: &[u8]) -> Option<u32> {
     }
 }
 
-// The same of their first bytes, of these words.
+// The place at which the prologue is refused, if it is, in the first bytes of these words.
 fn place_of_first(profile: Profile, words: &[u32; 7], count: usize) -> Option<u32>
     requires { count ≤ 28 }
 {

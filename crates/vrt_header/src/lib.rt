@@ -9,13 +9,13 @@ mod of_kind;
 mod profile;
 mod prologue;
 mod round_trip;
-mod spelling;
 #[cfg(test)]
 mod tests;
+mod writing;
 
 pub use crate::header::{Header, Kind, kind_of};
 pub use crate::of_kind::{kind_in, read_prologue_of};
 pub use crate::profile::Profile;
 pub use crate::prologue::{Prologue, read_prologue};
 pub use crate::round_trip::one_to_one;
-pub use crate::spelling::write_prologue;
+pub use crate::writing::write_prologue;

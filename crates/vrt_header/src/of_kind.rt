@@ -17,7 +17,8 @@ pub fn kind_in(bytes: &[u8]) -> Option<Kind>
     ensures told { IfSome result (λ kind. (0 < length (words_of bytes.now))
         × IsKind kind (slice_index (words_of bytes.now) 0)) }
     ensures none { IfNone result ((kind : kinds.Kind)
-        → ¬ ((0 < length (words_of bytes.now)) × IsKind kind (slice_index (words_of bytes.now) 0))) }
+        → ¬ ((0 < length (words_of bytes.now))
+        × IsKind kind (slice_index (words_of bytes.now) 0))) }
 {
     match word_at(bytes, 0) {
         Some(word) => kind_of(word),
@@ -32,10 +33,13 @@ pub fn kind_in(bytes: &[u8]) -> Option<Kind>
 #[inline(always)]
 pub fn read_prologue_of(profile: Profile, kind: Kind, bytes: &[u8]) -> Result<Prologue, Place>
     ensures found { IfOk result (λ prologue.
-        IsPrologueOf profile kind prologue (take (prologue_words prologue.header.timed) (words_of bytes.now))) }
-    ensures only { (prologue : Prologue) (n : ℕ) → IsPrologueOf profile kind prologue (take n (words_of bytes.now))
+        IsPrologueOf profile kind prologue
+        (take (prologue_words prologue.header.timed) (words_of bytes.now))) }
+    ensures only { (prologue : Prologue) (n : ℕ)
+        → IsPrologueOf profile kind prologue (take n (words_of bytes.now))
         → result ≡ Ok prologue }
-    ensures refused { IfErr result (λ place. IsRefusedAt (IsPrologueOf profile kind) (words_of bytes.now) place.word) }
+    ensures refused { IfErr result (λ place.
+        IsRefusedAt (IsPrologueOf profile kind) (words_of bytes.now) place.word) }
 {
     if !has_kind(kind, bytes) {
         return Err(Place { word: 0 });
@@ -46,7 +50,8 @@ pub fn read_prologue_of(profile: Profile, kind: Kind, bytes: &[u8]) -> Result<Pr
 // Whether the first word is the header of a packet of the kind.
 #[inline(always)]
 fn has_kind(kind: Kind, bytes: &[u8]) -> bool
-    ensures { IsTrue result ↔ (0 < length (words_of bytes.now)) × IsKind kind (slice_index (words_of bytes.now) 0) }
+    ensures { IsTrue result
+        ↔ (0 < length (words_of bytes.now)) × IsKind kind (slice_index (words_of bytes.now) 0) }
 {
     let Some(word) = word_at(bytes, 0) else {
         return false;

@@ -35,10 +35,13 @@ pub struct Prologue {
 #[inline(always)]
 pub fn read_prologue(profile: Profile, bytes: &[u8]) -> Result<Prologue, Place>
     ensures found { IfOk result (λ prologue.
-        IsPrologue profile prologue (take (prologue_words prologue.header.timed) (words_of bytes.now))) }
-    ensures only { (prologue : Prologue) (n : ℕ) → IsPrologue profile prologue (take n (words_of bytes.now))
+        IsPrologue profile prologue
+        (take (prologue_words prologue.header.timed) (words_of bytes.now))) }
+    ensures only { (prologue : Prologue) (n : ℕ)
+        → IsPrologue profile prologue (take n (words_of bytes.now))
         → result ≡ Ok prologue }
-    ensures refused { IfErr result (λ place. IsRefusedAt (IsPrologue profile) (words_of bytes.now) place.word) }
+    ensures refused { IfErr result (λ place.
+        IsRefusedAt (IsPrologue profile) (words_of bytes.now) place.word) }
 {
     let first = word_or_place(bytes, 0)?;
     let Some(header) = header_of(profile, first) else {
@@ -54,7 +57,8 @@ fn read_behind(profile: Profile, header: Header, bytes: &[u8]) -> Result<Prologu
     requires there { 0 < length (words_of bytes.now) }
     ensures found { IfOk result (λ prologue. (prologue.header ≡ header)
         × IsPrologue profile prologue (take (prologue_words header.timed) (words_of bytes.now))) }
-    ensures refused { IfErr result (λ place. IsWrongAt profile header (words_of bytes.now) place.word) }
+    ensures refused { IfErr result (λ place.
+        IsWrongAt profile header (words_of bytes.now) place.word) }
 {
     let stream = word_or_place(bytes, 1)?;
     let Some(pad) = pad_of(profile, header.kind, word_or_place(bytes, 2)?) else {
@@ -93,7 +97,8 @@ fn pad_of(profile: Profile, kind: Kind, word: u32) -> Option<u8>
 #[inline(always)]
 fn class_of(kind: Kind, word: u32) -> Option<(u16, u16)>
     ensures right { IsSome result ↔ IsClass kind (bits word 16 16) (bits word 0 16) }
-    ensures codes { IfSome result (λ codes. (codes.0 ≡ bits word 16 16) × (codes.1 ≡ bits word 0 16)) }
+    ensures codes { IfSome result (λ codes. (codes.0 ≡ bits word 16 16)
+        × (codes.1 ≡ bits word 0 16)) }
 {
     let codes = (bits_of(word, 16, 16) as u16, bits_of(word, 0, 16) as u16);
     let right = match kind {
@@ -109,7 +114,8 @@ fn class_of(kind: Kind, word: u32) -> Option<(u16, u16)>
 #[inline(always)]
 fn stamp_of(header: Header, bytes: &[u8]) -> Result<Option<Stamp>, Place>
     requires { 4 ≤ length (words_of bytes.now) }
-    ensures found { IfOk result (λ stamp. (prologue_words header.timed ≤ length (words_of bytes.now))
+    ensures found { IfOk result (λ stamp.
+        (prologue_words header.timed ≤ length (words_of bytes.now))
         × IsStamped header.timed stamp (words_of bytes.now)) }
     ensures refused { IfErr result (λ place. (header.timed ≡ true)
         × IsUnstampedAt (words_of bytes.now) place.word) }
@@ -127,7 +133,8 @@ fn stamp_of(header: Header, bytes: &[u8]) -> Result<Option<Stamp>, Place>
 #[inline(always)]
 fn stamp_at(bytes: &[u8]) -> Result<Stamp, Place>
     requires { 4 ≤ length (words_of bytes.now) }
-    ensures found { IfOk result (λ stamp. (7 ≤ length (words_of bytes.now)) × IsStamped true (Some stamp) (words_of bytes.now)) }
+    ensures found { IfOk result (λ stamp. (7 ≤ length (words_of bytes.now))
+        × IsStamped true (Some stamp) (words_of bytes.now)) }
     ensures refused { IfErr result (λ place. IsUnstampedAt (words_of bytes.now) place.word) }
 {
     let seconds = word_or_place(bytes, 4)?;

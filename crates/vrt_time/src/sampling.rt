@@ -29,7 +29,8 @@ pub fn captured_before(stamp: Stamp, rate: i64, number: u32, until: Moment) -> u
     requires { pos (2 ^ 20) ≤ℤ rate }
     ensures within { result ≤ number }
     ensures before { (m : ℕ) → m < result → capture_at stamp m (unsigned_abs rate) < until }
-    ensures behind { (m : ℕ) → result ≤ m → m < number → until ≤ capture_at stamp m (unsigned_abs rate) }
+    ensures behind { (m : ℕ) → result ≤ m → m < number
+        → until ≤ capture_at stamp m (unsigned_abs rate) }
 {
     if number == 0 || until <= stamp.moment() {
         return 0;

@@ -59,7 +59,8 @@ impl Stamp {
     #[inline]
     pub fn parts(&self) -> [u32; 3]
         ensures words { result ≡ parts_of self.now }
-        ensures again { stamp_of (slice_index result 0) (fraction_of (slice_index result 1) (slice_index result 2))
+        ensures again { stamp_of (slice_index result 0)
+            (fraction_of (slice_index result 1) (slice_index result 2))
             ≡ self.now }
         ensures within { IsStamp self.now }
     {

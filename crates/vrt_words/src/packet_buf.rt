@@ -50,7 +50,8 @@ impl PacketBuf {
         number: usize,
     ) -> Result<Vec<PacketBuf>, NoMemory>
         requires { max_words ≤ 16376 }
-        ensures buffers { IfOk result (λ bufs. bufs.items ≡ replicate number (fresh (4 * max_words))) }
+        ensures buffers { IfOk result (λ bufs. bufs.items
+            ≡ replicate number (fresh (4 * max_words))) }
         ensures room { IfOk result (λ bufs. number ≤ vec_capacity bufs) }
     {
         let Ok(mut opened) = BlockBuf::open_many(alloc, 4 * max_words as usize, number) else {

@@ -75,7 +75,8 @@ pub fn read_words(bytes: &[u8], index: usize, into: &mut [u32])
 pub fn put_words(bytes: &mut [u8], index: usize, words: &[u32])
     requires { 4 * (index + length words.now) ≤ length bytes.old }
     ensures words { words_of bytes.new
-        ≡ take index (words_of bytes.old) ++ (words.now ++ drop (index + length words.now) (words_of bytes.old)) }
+        ≡ take index (words_of bytes.old) ++ (words.now
+        ++ drop (index + length words.now) (words_of bytes.old)) }
     ensures before { take (4 * index) bytes.new ≡ take (4 * index) bytes.old }
     ensures behind { drop (4 * (index + length words.now)) bytes.new
         ≡ drop (4 * (index + length words.now)) bytes.old }

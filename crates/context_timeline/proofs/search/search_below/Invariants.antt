@@ -1,5 +1,5 @@
 use Rattle.std.proofs.Common.{◌-◌, ◌<◌, ◌≤◌, length, slice_index, ℕ}
-use Rattle.context_timeline.specs.Line.{moments}
+use Rattle.context_timeline.specs.State.{moments}
 use Rattle.context_timeline.proofs.search.search_below.Given as goal
 
 abbrev pub invariant-loop-low : goal.invariant-loop-low

@@ -1,6 +1,6 @@
 use Rattle.std.proofs.Common.{◌<◌, Option, IfSome, sym, subst, rules}
 use Rattle.vrt_time.specs.Time.{TimeStamp, moment_of}
-use Rattle.context_timeline.specs.Line.{stamp_in}
+use Rattle.context_timeline.specs.State.{stamp_in}
 use Rattle.context_timeline.proofs.tests.add_above.Goals as goal
 
 -- the stamp that was compared is the one that the context's prologue holds

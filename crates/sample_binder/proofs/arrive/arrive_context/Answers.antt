@@ -1,6 +1,6 @@
 use Rattle.std.proofs.Common.{◌≡◌, sym, ap, subst}
 use Rattle.vrt_time.specs.Time.{TimeStamp}
-use Rattle.context_timeline.specs.Line.{stamp_in}
+use Rattle.context_timeline.specs.State.{stamp_in}
 use Rattle.difi_context.specs.contracts.context.ContextRecPartialEq.TheImpl as same
 use Rattle.sample_binder.specs.Arrivals.{Takes}
 use Rattle.sample_binder.proofs.arrive.arrive_context.Goals as goal

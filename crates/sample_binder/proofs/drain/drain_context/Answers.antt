@@ -1,5 +1,5 @@
 use Rattle.std.proofs.Common.{true, sym, ap, ◌∙◌, subst, arith}
-use Rattle.context_timeline.specs.Line.{Line}
+use Rattle.context_timeline.specs.State.{TimelineState}
 use Rattle.sample_binder.specs.Binder.{AreContextsSeen}
 use Rattle.sample_binder.specs.Queue.{State}
 use Rattle.sample_binder.proofs.BinderLemmas.{added_within}
@@ -17,7 +17,7 @@ give_context-requires-clause-room c =
 
 pub returns-in-Some-clause-seen : goal.returns-in-Some-clause-seen
 returns-in-Some-clause-seen c = λ kept given s.
-    subst (λ (l : Line). AreContextsSeen kept given c.drain_one.new.self l true) (sym (ap (λ (st : State). st.line) c.give_context.ensures.state))
+    subst (λ (l : TimelineState). AreContextsSeen kept given c.drain_one.new.self l true) (sym (ap (λ (st : State). st.line) c.give_context.ensures.state))
     (seen_drained c.args.contexts.now c.drain_one.new.self c.args.binding.now.line c.in-Some.released c.in-Some.ensures.size c.in-Some.ensures.given c.in-Some.ensures.stands kept given s)
 
 pub returns-in-Some-clause-follows : goal.returns-in-Some-clause-follows

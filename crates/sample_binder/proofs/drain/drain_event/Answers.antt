@@ -1,5 +1,5 @@
 use Rattle.std.proofs.Common.{◌≡◌, ◌+◌, true, length, sym, ap, ◌∙◌, subst}
-use Rattle.context_timeline.specs.Line.{Line}
+use Rattle.context_timeline.specs.State.{TimelineState}
 use Rattle.sample_binder.specs.Binder.{AreContextsSeen}
 use Rattle.sample_binder.specs.Queue.{State}
 use Rattle.sample_binder.proofs.DrainLemmas.{follows_end}
@@ -13,7 +13,7 @@ returns-clause-drains c =
     let ended : State = c.end.new.self in
     let line : ended.line ≡ c.drain_held.new.binding.line = ap (λ (s : State). s.line) c.end.ensures.state in
     record {
-      contexts_seen = λ kept given s. subst (λ (l : Line). AreContextsSeen kept given c.drain_held.new.contexts l true) (sym line) (held.contexts_seen kept given s);
+      contexts_seen = λ kept given s. subst (λ (l : TimelineState). AreContextsSeen kept given c.drain_held.new.contexts l true) (sym line) (held.contexts_seen kept given s);
       packets_seen = held.packets_seen;
       follows = λ limits calls taken h.
           follows_end limits c.drain_held.new.contexts c.drain_held.new.packets c.drain_held.new.binding ended calls taken none empty c.drain_held.ensures.running (ap (λ (s : State). s.ended) c.end.ensures.state)

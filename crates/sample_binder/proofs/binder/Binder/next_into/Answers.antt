@@ -1,6 +1,6 @@
 use Rattle.std.proofs.Common.{◌≡◌, ◌+◌, Some, None, Option, slice_get, sym, ◌∙◌, subst}
 use Rattle.sample_binder.specs.Binder.{Bound, StandsFor, Follows, AreSeen}
-use Rattle.context_timeline.specs.Line.{Line}
+use Rattle.context_timeline.specs.State.{TimelineState}
 use Rattle.sample_binder.specs.Calls.{outputs_of}
 use Rattle.sample_binder.specs.declared.out.Out.{Out}
 use Rattle.sample_binder.specs.GivenOut.{out_by}
@@ -22,7 +22,7 @@ invariant_of-self-2 c =
     let old = c.self.invariant in
     let line : c.next_into.new.self.line ≡ inside.binding.line = c.next_into.ensures.line in
     let seen : AreSeen inside.limits.kept inside.given inside.contexts inside.packets c.next_into.new.self.line inside.told =
-    subst (λ (l : Line). AreSeen inside.limits.kept inside.given inside.contexts inside.packets l inside.told) (sym line) old.seen in
+    subst (λ (l : TimelineState). AreSeen inside.limits.kept inside.given inside.contexts inside.packets l inside.told) (sym line) old.seen in
     record {
       limits = old.limits;
       context_size = c.go_on.ensures.context_size ∙ old.context_size;
