@@ -8,15 +8,11 @@ mod list;
 mod migrate;
 mod migration;
 mod options;
-#[cfg(test)]
-mod options_tests;
 mod report;
 mod run;
 #[cfg(test)]
 mod tests;
 mod words;
-#[cfg(test)]
-mod words_tests;
 
 pub use crate::laws::{
     bytes_have_one_status, bytes_have_one_text, migrated_keeps_its_releases, migrated_once,

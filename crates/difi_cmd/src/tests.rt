@@ -1,3 +1,6 @@
+mod options;
+mod words;
+
 use super::*;
 use difi_io::{MemSink, MemSource, NoGate};
 use std::alloc::{AllocError, Global};
