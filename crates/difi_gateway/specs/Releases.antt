@@ -68,7 +68,7 @@ part_of head received = copies head.routes (told head received)
 abbrev pub all_told : RecordHead → List Received → List Item
 all_told head received = told head received ++ told_at_end head received
 
--- the same, what the end adds, and the counts of all these
+-- the releases of these frames and of what the end adds, and the counts of all these
 abbrev pub out_of : RecordHead → List Received → List Release
 out_of head received =
     copies head.routes (all_told head received)

@@ -57,7 +57,7 @@ refused old port size refusal detail stamp = record old {
   place = 0;
 }
 
--- the same with what turned its packet away
+-- a frame of so many bytes is refused, with what turned its packet away
 abbrev pub refused_for : Gated → (port size : ℕ) → Turned → Gated
 refused_for old port size (turned.Late boundary) = refused old port size Late 0 (Some boundary)
 refused_for old port size turned.Repeat = refused old port size Repeat 0 None

@@ -21,7 +21,7 @@ const DATA: [u32; 8] = [
     0x0001_0002,
 ];
 
-// The same whole, for port 9: no context behind its own came before the end.
+// `DATA` whole, for port 9: no context behind its own came before the end.
 const RAW: [u32; 12] = [3, 40, 1, 9, 0, 5, 0, 0x6553_F100, 0, 0, 0, 0x0001_0002];
 
 // The counts of a context, and of a data packet that left whole.

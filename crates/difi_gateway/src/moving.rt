@@ -109,7 +109,7 @@ impl Parts {
         true
     }
 
-    // The same, and draws nothing.
+    // Puts what `put_next` puts, and draws nothing.
     fn put_owed(&mut self, out: &mut TextBuffer) -> bool
         requires sound { IsSound (gated self.old) }
         requires ahead { IsDrawnAhead (gated self.old) }

@@ -66,7 +66,7 @@ impl Parts {
         }
     }
 
-    // The same for a datagram of any kind.
+    // Takes a frame whose datagram is of any kind, or refuses it.
     #[inline(never)]
     fn take_any(&mut self, port: u16, bytes: &[u8])
         requires ready { MayTake (gated self.old) (length bytes.now) }
@@ -191,7 +191,7 @@ impl Parts {
         self.place = 0;
     }
 
-    /// The same where its packet was turned away.
+    /// Refuses a frame of so many bytes, whose packet was turned away.
     pub fn turn_away(&mut self, port: u16, size: usize, turned: Turned)
         requires few { self.old.taken + 1 + size < 2 ^ 63 }
         requires frames { slice_index self.old.counts 0 < 2 ^ 63 }

@@ -44,7 +44,7 @@ impl Parts {
         self.stage = Stage::Over;
     }
 
-    // The same as `put_copy`, and tells it still.
+    // Puts a copy of what is told, as `put_copy` does, and tells it still.
     #[inline]
     fn put_first(&self, out: &mut TextBuffer)
         requires told { (gated self.now).telling ≢ telling.Nothing }

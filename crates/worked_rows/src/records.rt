@@ -21,7 +21,7 @@ pub fn header(alloc: Global) -> Result<Vec<u8>, AllocError> {
     datagram(alloc, &routed())
 }
 
-/// The same of a record of the second form, up to its one route.
+/// The header of such a record of the second form, up to its one route.
 pub fn second_header(alloc: Global) -> Result<Vec<u8>, AllocError> {
     datagram(alloc, &second_form())
 }

@@ -27,7 +27,7 @@ pub fn data(second: u32, count: u32) -> [u32; 8] {
     [first, 1, 0x006A_621E, 0, second, 0, 0, 0x0001_0002]
 }
 
-/// The same half a second later.
+/// A data packet of one sample, half a second after this second.
 pub fn data_at_half(second: u32, count: u32) -> [u32; 8] {
     let first = 0x1860_0008 | count << 16;
     [
@@ -47,7 +47,7 @@ pub fn raw(reason: u32, detail: u32, second: u32) -> [u32; 12] {
     [3, 40, 1, 9, 0, reason, detail, second, 0, 0, 0, 0x0001_0002]
 }
 
-/// The same half a second later.
+/// The release of such a packet as a whole, half a second after this second.
 pub fn raw_at_half(reason: u32, detail: u32, second: u32) -> [u32; 12] {
     [
         3,
@@ -114,7 +114,7 @@ pub fn end(counts: Counts) -> [u32; 16] {
     ]
 }
 
-/// The same of so many frames, of which so many are refused, and so many raw packets.
+/// The End record of so many frames, of which so many are refused, and so many raw packets.
 pub fn end_of_raw(frames: u32, refused: u32, raw: u32) -> [u32; 16] {
     end(Counts {
         frames,
