@@ -6,7 +6,7 @@ ghost use Rattle.replay_form.specs.Record.{first_stamp};
 ghost use Rattle.vrt_time.specs.Time.{TimeStamp};
 ghost use Rattle.pcap_frames.specs.CaptureFields.{Captured, IsWholeRecord, captured_in, unit_of};
 ghost use Rattle.pcap_frames.specs.CaptureFile.{IsCapture, IsCaptureWrongAt, EndsInside};
-ghost use Rattle.pcap_frames.specs.Reading.{StandsFor, IsFresh, IsStep, IsFailed, IsNewFault, IsFinished, IsUnfinished, IsRecordIn, begun, records_after, held_record};
+ghost use Rattle.pcap_frames.specs.Reading.{StandsFor, IsFresh, IsNextReading, IsFailed, IsNewFault, IsAtEnd, IsUnfinished, IsRecordIn, begun, records_after, held_record};
 ghost use Rattle.pcap_frames.specs.declared.form.FileForm.{FileForm};
 ghost use Rattle.pcap_frames.specs.declared.stage.Stage.TheVariants as stages;
 
@@ -91,7 +91,7 @@ impl CaptureReader {
         ensures lies { IfOk result (λ step. self.new.whole ≡ true → IsRecordIn self.new (take step.0 piece.now)) }
 
         // The same, by what the reader knows.
-        ensures step { IfOk result (λ step. IsStep self.old piece.now step.0 step.1 self.new) }
+        ensures step { IfOk result (λ step. IsNextReading self.old piece.now step.0 step.1 self.new) }
         ensures wrong { IfErr result (λ fault. IsFailed self.old.fault self.old piece.now fault.offset self.new) }
         ensures idle { OnErr result (self.new.whole ≡ false) }
         ensures kept { OnErr result (KeepsHead self.old.header self.new.header) }
@@ -135,14 +135,14 @@ impl CaptureReader {
             → IsCaptureWrongAt records taken fault.offset ⊎ (EndsInside taken × (fault.offset ≡ length taken))) }
 
         // The same, by what the reader knows.
-        ensures finished { OnOk result (IsFinished self.now) }
+        ensures finished { OnOk result (IsAtEnd self.now) }
         ensures unfinished { IfErr result (λ fault. IsUnfinished self.now.fault self.now fault.offset) }
     {
         self.ending()
     }
 
     fn ending(&self) -> Result<(), RecordFault>
-        ensures finished { OnOk result (IsFinished self.now) }
+        ensures finished { OnOk result (IsAtEnd self.now) }
         ensures unfinished { IfErr result (λ fault. IsUnfinished self.now.fault self.now fault.offset) }
     {
         if let Some(standing) = self.fault {
@@ -165,7 +165,7 @@ impl CaptureReader {
     // One call of `feed`.
     fn advance(&mut self, piece: &[u8]) -> Result<(usize, CaptureEvent), RecordFault>
         requires { self.old.fault ≡ None → self.old.start + length (begun self.old) + length piece.now < 2 ^ 63 }
-        ensures step { IfOk result (λ step. IsStep self.old piece.now step.0 step.1 self.new) }
+        ensures step { IfOk result (λ step. IsNextReading self.old piece.now step.0 step.1 self.new) }
         ensures progress { IfOk result (λ step. 0 < length piece.now → 0 < step.0) }
         ensures wrong { IfErr result (λ fault. IsFailed self.old.fault self.old piece.now fault.offset self.new) }
         ensures idle { OnErr result (self.new.whole ≡ false) }
@@ -186,7 +186,7 @@ impl CaptureReader {
         requires sound { self.old.fault ≡ None }
         requires stage { self.old.stage ≡ stages.Header }
         requires small { self.old.start + length (begun self.old) + length piece.now < 2 ^ 63 }
-        ensures step { IfOk result (λ step. IsStep self.old piece.now step.0 step.1 self.new) }
+        ensures step { IfOk result (λ step. IsNextReading self.old piece.now step.0 step.1 self.new) }
         ensures progress { IfOk result (λ step. 0 < length piece.now → 0 < step.0) }
         ensures wrong { IfErr result (λ fault. IsNewFault self.old piece.now fault.offset self.new) }
         ensures kept { OnErr result (KeepsHead self.old.header self.new.header) }
@@ -214,7 +214,7 @@ impl CaptureReader {
         requires sound { self.old.fault ≡ None }
         requires stage { self.old.stage ≡ stages.FileHead }
         requires small { self.old.start + length (begun self.old) + length piece.now < 2 ^ 63 }
-        ensures step { IfOk result (λ step. IsStep self.old piece.now step.0 step.1 self.new) }
+        ensures step { IfOk result (λ step. IsNextReading self.old piece.now step.0 step.1 self.new) }
         ensures progress { IfOk result (λ step. 0 < length piece.now → 0 < step.0) }
         ensures wrong { IfErr result (λ fault. IsNewFault self.old piece.now fault.offset self.new) }
         ensures kept { OnErr result (KeepsHead self.old.header self.new.header) }
@@ -246,7 +246,7 @@ impl CaptureReader {
         requires sound { self.old.fault ≡ None }
         requires stage { self.old.stage ≡ stages.Records form }
         requires small { self.old.start + length (begun self.old) + length piece.now < 2 ^ 63 }
-        ensures step { IfOk result (λ step. IsStep self.old piece.now step.0 step.1 self.new) }
+        ensures step { IfOk result (λ step. IsNextReading self.old piece.now step.0 step.1 self.new) }
         ensures progress { IfOk result (λ step. 0 < length piece.now → 0 < step.0) }
         ensures wrong { IfErr result (λ fault. IsNewFault self.old piece.now fault.offset self.new) }
         ensures kept { OnErr result (KeepsHead self.old.header self.new.header) }
@@ -277,7 +277,7 @@ impl CaptureReader {
         requires stage { self.old.stage ≡ stages.Records form }
         requires idle { self.old.whole ≡ false }
         requires small { self.old.start + length (begun self.old) + length piece.now < 2 ^ 63 }
-        ensures step { IfOk result (λ step. IsStep self.old piece.now step.0 step.1 self.new) }
+        ensures step { IfOk result (λ step. IsNextReading self.old piece.now step.0 step.1 self.new) }
         ensures progress { IfOk result (λ step. 0 < length piece.now → 0 < step.0) }
         ensures wrong { IfErr result (λ fault. IsNewFault self.old piece.now fault.offset self.new) }
         ensures kept { OnErr result (KeepsHead self.old.header self.new.header) }

@@ -3,14 +3,14 @@ ghost use Rattle.replay_form.specs.Head.{IsSpelledHead};
 ghost use Rattle.replay_form.specs.HeadValues.{AreHeadValues};
 ghost use Rattle.replay_form.specs.FrameFields.{Frame, IsFrame, IsWholeFrame};
 ghost use Rattle.replay_form.specs.Numbers.{number_at};
-ghost use Rattle.replay_form.specs.Reading.{StandsFor, IsFresh, IsStep, IsFailed, IsNewFault, IsFinished, IsUnfinished, IsFrameIn, KeepsHead, begun, frames_after, held_frame, whole_bytes};
+ghost use Rattle.replay_form.specs.Reading.{StandsFor, IsFresh, IsNextReading, IsFailed, IsNewFault, IsAtEnd, IsUnfinished, IsFrameIn, KeepsHead, begun, frames_after, held_frame, whole_bytes};
 ghost use Rattle.replay_form.specs.Record.{IsRecord, IsRecordWrongAt, EndsInside, first_stamp};
 ghost use Rattle.vrt_time.specs.Time.{TimeStamp, stamp_of};
 
 use crate::event::{Event, RecordFault};
 use crate::frame_field::FRAME_HEAD;
+use crate::head_reading::read_head;
 use crate::numbers::{u16_at, u32_at, u64_at};
-use crate::read_head::read_head;
 use crate::record_head::RecordHead;
 use crate::route_list::RouteList;
 use crate::take::{FrameTaken, HeadTaken, MOST_HELD, take_frame, take_head};
@@ -102,7 +102,7 @@ impl RecordReader {
         ensures lies { IfOk result (λ step. self.new.whole ≡ true → IsFrameIn self.new (take step.0 piece.now)) }
 
         // The same, by what the reader knows.
-        ensures step { IfOk result (λ step. IsStep self.old piece.now step.0 step.1 self.new) }
+        ensures step { IfOk result (λ step. IsNextReading self.old piece.now step.0 step.1 self.new) }
         ensures wrong { IfErr result (λ fault. IsFailed self.old.fault self.old piece.now fault.offset self.new) }
         ensures idle { OnErr result (self.new.whole ≡ false) }
         ensures kept { OnErr result (KeepsHead self.old self.new) }
@@ -160,14 +160,14 @@ impl RecordReader {
             → IsRecordWrongAt frames taken fault.offset ⊎ (EndsInside taken × (fault.offset ≡ length taken))) }
 
         // The same, by what the reader knows.
-        ensures finished { OnOk result (IsFinished self.now) }
+        ensures finished { OnOk result (IsAtEnd self.now) }
         ensures unfinished { IfErr result (λ fault. IsUnfinished self.now.fault self.now fault.offset) }
     {
         self.ending()
     }
 
     fn ending(&self) -> Result<(), RecordFault>
-        ensures finished { OnOk result (IsFinished self.now) }
+        ensures finished { OnOk result (IsAtEnd self.now) }
         ensures unfinished { IfErr result (λ fault. IsUnfinished self.now.fault self.now fault.offset) }
     {
         if let Some(standing) = self.fault {
@@ -185,7 +185,7 @@ impl RecordReader {
     // One call of `feed`.
     fn advance(&mut self, piece: &[u8]) -> Result<(usize, Event), RecordFault>
         requires { self.old.fault ≡ None → self.old.start + length (begun self.old) + length piece.now < 2 ^ 63 }
-        ensures step { IfOk result (λ step. IsStep self.old piece.now step.0 step.1 self.new) }
+        ensures step { IfOk result (λ step. IsNextReading self.old piece.now step.0 step.1 self.new) }
         ensures progress { IfOk result (λ step. 0 < length piece.now → 0 < step.0) }
         ensures wrong { IfErr result (λ fault. IsFailed self.old.fault self.old piece.now fault.offset self.new) }
         ensures idle { OnErr result (self.new.whole ≡ false) }
@@ -217,7 +217,7 @@ impl RecordReader {
         requires sound { self.old.fault ≡ None }
         requires first { self.old.started ≡ false }
         requires small { self.old.start + length (begun self.old) + length piece.now < 2 ^ 63 }
-        ensures step { IfOk result (λ step. IsStep self.old piece.now step.0 step.1 self.new) }
+        ensures step { IfOk result (λ step. IsNextReading self.old piece.now step.0 step.1 self.new) }
         ensures progress { IfOk result (λ step. 0 < length piece.now → 0 < step.0) }
         ensures wrong { IfErr result (λ fault. IsNewFault self.old piece.now fault.offset self.new) }
         ensures kept { OnErr result (KeepsHead self.old self.new) }
@@ -252,7 +252,7 @@ impl RecordReader {
         requires later { self.old.started ≡ true }
         requires idle { self.old.whole ≡ false }
         requires small { self.old.start + length (begun self.old) + length piece.now < 2 ^ 63 }
-        ensures step { IfOk result (λ step. IsStep self.old piece.now step.0 step.1 self.new) }
+        ensures step { IfOk result (λ step. IsNextReading self.old piece.now step.0 step.1 self.new) }
         ensures progress { IfOk result (λ step. 0 < length piece.now → 0 < step.0) }
         ensures wrong { IfErr result (λ fault. IsNewFault self.old piece.now fault.offset self.new) }
         ensures kept { OnErr result (KeepsHead self.old self.new) }

@@ -4,7 +4,7 @@ ghost use Rattle.replay_form.specs.Taking.{IsHeadTaken, IsHeadBegun, TakesSome, 
 ghost use Rattle.replay_form.specs.FrameFields.{IsFramePart, IsWholeFrame, IsFrameWrongAt};
 
 use crate::frame_field::{FRAME_HEAD, judge_frame, size_of_frame, whole_frame};
-use crate::head_field::{FIXED_SIZE, size_of_route};
+use crate::head_field::{FIXED_SIZE, ROUTES, size_of_route};
 use crate::judge_head::{is_second_form, judge_head};
 use crate::numbers::u32_at;
 use vrt_time::Stamp;
@@ -33,7 +33,7 @@ fn size_of_head(bytes: &[u8]) -> usize
     requires { 332 ≤ length bytes.now }
     ensures { result ≡ head_size bytes.now }
 {
-    FIXED_SIZE + size_of_route(is_second_form(bytes)) * u32_at(bytes, 36) as usize
+    FIXED_SIZE + size_of_route(is_second_form(bytes)) * u32_at(bytes, ROUTES) as usize
 }
 
 /// Moves bytes of the piece behind those held until there are `size`, and answers how many.

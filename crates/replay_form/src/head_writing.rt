@@ -6,7 +6,10 @@ ghost use Rattle.replay_form.specs.HeadSpelling.{IsHeadStart, IsLimitSpelled, Ar
 ghost use Rattle.replay_form.specs.HeadValues.{AreHeadValues};
 ghost use Rattle.replay_form.specs.Numbers.{AreNumbers};
 
-use crate::head_field::{FIXED_SIZE, size_of_route, start_of_route};
+use crate::head_field::{
+    CID, CONTEXT_WINDOW, DATA_WINDOW, FIXED_SIZE, IDENTITY, IDENTITY_FORM, INITIAL, KEPT, MAGIC,
+    MAX_WORDS, PENDING, ROUTES, TSI, size_of_route, start_of_bound, start_of_route,
+};
 use crate::head_rules::{FIRST_MAGIC, SECOND_MAGIC};
 use crate::put::{put_u16, put_u32, put_u64};
 use crate::record_head::RecordHead;
@@ -48,10 +51,10 @@ fn put_profile(head: &RecordHead, into: &mut [u8])
     ensures agrees { (bytes : List ℕ) → IsHeadStart head.now bytes → take 20 into.new ≡ take 20 bytes }
     ensures stays { (n : ℕ) → 20 ≤ n → drop n into.new ≡ drop n into.old }
 {
-    put_u64(into, 0, magic(head.form));
-    put_u32(into, 8, head.profile.cid());
-    put_u32(into, 12, u32::from(head.profile.tsi()));
-    put_u32(into, 16, head.max_words);
+    put_u64(into, MAGIC, magic(head.form));
+    put_u32(into, CID, head.profile.cid());
+    put_u32(into, TSI, u32::from(head.profile.tsi()));
+    put_u32(into, MAX_WORDS, head.max_words);
 }
 
 // The limits, the number of routes, and the form of the identity.
@@ -61,12 +64,12 @@ fn put_limits(head: &RecordHead, into: &mut [u8])
     ensures agrees { (bytes : List ℕ) → IsHeadStart head.now bytes → take 20 into.old ≡ take 20 bytes → take 44 into.new ≡ take 44 bytes }
     ensures stays { (n : ℕ) → 44 ≤ n → drop n into.new ≡ drop n into.old }
 {
-    put_u32(into, 20, head.limits.data_window);
-    put_u32(into, 24, head.limits.context_window);
-    put_u32(into, 28, head.limits.kept);
-    put_u32(into, 32, head.limits.pending);
-    put_u32(into, 36, head.routes.as_slice().len() as u32);
-    put_u32(into, 40, form_of(&head.identity));
+    put_u32(into, DATA_WINDOW, head.limits.data_window);
+    put_u32(into, CONTEXT_WINDOW, head.limits.context_window);
+    put_u32(into, KEPT, head.limits.kept);
+    put_u32(into, PENDING, head.limits.pending);
+    put_u32(into, ROUTES, head.routes.as_slice().len() as u32);
+    put_u32(into, IDENTITY_FORM, form_of(&head.identity));
 }
 
 // Words one after another, from an offset on.
@@ -90,7 +93,7 @@ fn put_limit(into: &mut [u8], bound: usize, limit: &Limit)
         → take (164 + 28 * bound) into.new ≡ take (164 + 28 * bound) bytes }
     ensures stays { (n : ℕ) → 164 + 28 * bound ≤ n → drop n into.new ≡ drop n into.old }
 {
-    let offset = 136 + 28 * bound;
+    let offset = start_of_bound(bound);
     let offset = put_u32(into, offset, u32::from(limit.settable));
     let offset = put_u64(into, offset, limit.step);
     let offset = put_u64(into, offset, limit.least.cast_unsigned());
@@ -195,8 +198,8 @@ pub fn encode_head(head: &RecordHead, into: &mut [u8]) -> usize
     let words = words_of(&head.identity);
     put_profile(head, into);
     put_limits(head, into);
-    put_words(into, 44, &words);
-    put_words(into, 60, &head.initial);
+    put_words(into, IDENTITY, &words);
+    put_words(into, INITIAL, &head.initial);
     put_bounds(into, &head.bounds);
     put_routes(into, second, routes);
     FIXED_SIZE + size_of_route(second) * routes.len()
