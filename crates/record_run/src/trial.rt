@@ -9,8 +9,8 @@ use vrt_words::NoMemory;
 
 /// Tells the number of each frame, and at the end how many there were.
 ///
-/// A frame has a second line, which is owed when the first one was put. So is the last line when the
-/// end came.
+/// A frame has a second line, which is owed when the first one was put. So is the last line when
+/// the end came.
 #[derive(Debug, Drop)]
 pub(crate) struct TrialTeller {
     /// How many frames were told of.
@@ -43,7 +43,7 @@ impl TrialTeller {
         }
     }
 
-    /// The same, and so many bytes are taken at the header.
+    /// Nothing was told so far, and so many bytes are taken at the header.
     pub fn with_room(alloc: Global, room: usize) -> Self
         ensures told { result.told ≡ 0 }
         ensures owes { result.owes ≡ false }

@@ -62,7 +62,8 @@ fn is_pending(second: bool, pending: u32) -> bool
 // Whether there may be so many routes, whose buffers have at most 2^30 bytes.
 fn is_route_count(second: bool, front: &[u8]) -> bool
     requires { 40 ≤ length front.now }
-    ensures { IsTrue result ↔ IsRouteCount second (number_at 16 4 front.now) (number_at 20 4 front.now)
+    ensures { IsTrue result
+        ↔ IsRouteCount second (number_at 16 4 front.now) (number_at 20 4 front.now)
         (number_at 32 4 front.now) (number_at 36 4 front.now) }
 {
     let most = if second { 256 } else { 64 };
@@ -97,7 +98,8 @@ fn is_initial(word: u32, front: &[u8]) -> bool
     is_initial_word(word, u32_at(front, offset - 4), u32_at(front, offset))
 }
 
-// The same of the word and the one in front of it.
+// Whether a word of the initial fields, with the one in front of it, is one that a context may
+// have.
 fn is_initial_word(place: u32, before: u32, word: u32) -> bool
     ensures { IsTrue result ↔ IsInitialWord place before word }
 {
@@ -113,7 +115,9 @@ fn is_initial_word(place: u32, before: u32, word: u32) -> bool
 // Whether the step of a bounds entry is right.
 fn is_step(bound: u32, front: &[u8]) -> bool
     requires { 148 + 28 * bound ≤ length front.now }
-    ensures { IsTrue result ↔ IsStep (number_at (136 + 28 * bound) 4 front.now) (number_at (140 + 28 * bound) 8 front.now) }
+    ensures { IsTrue result
+        ↔ IsStep (number_at (136 + 28 * bound) 4 front.now)
+        (number_at (140 + 28 * bound) 8 front.now) }
 {
     let offset = start_of_bound(bound as usize);
     let step = u64_at(front, offset + STEP);
@@ -173,7 +177,8 @@ fn is_range(bound: u32, front: &[u8]) -> bool
 fn is_greatest(bound: u32, front: &[u8]) -> bool
     requires { 164 + 28 * bound ≤ length front.now }
     ensures { IsTrue result ↔ IsGreatest bound (number_at (136 + 28 * bound) 4 front.now)
-        (number_at (140 + 28 * bound) 8 front.now) (signed_at (148 + 28 * bound) front.now) (signed_at (156 + 28 * bound) front.now) }
+        (number_at (140 + 28 * bound) 8 front.now) (signed_at (148 + 28 * bound) front.now)
+        (signed_at (156 + 28 * bound) front.now) }
 {
     let offset = start_of_bound(bound as usize);
     let step = u64_at(front, offset + STEP);

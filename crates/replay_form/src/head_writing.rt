@@ -48,7 +48,8 @@ fn words_of(identity: &Ident) -> [u32; 4]
 // The numbers in front of the limits.
 fn put_profile(head: &RecordHead, into: &mut [u8])
     requires { 332 ≤ length into.old }
-    ensures agrees { (bytes : List ℕ) → IsHeadStart head.now bytes → take 20 into.new ≡ take 20 bytes }
+    ensures agrees { (bytes : List ℕ) → IsHeadStart head.now bytes
+        → take 20 into.new ≡ take 20 bytes }
     ensures stays { (n : ℕ) → 20 ≤ n → drop n into.new ≡ drop n into.old }
 {
     put_u64(into, MAGIC, magic(head.form));
@@ -61,7 +62,8 @@ fn put_profile(head: &RecordHead, into: &mut [u8])
 fn put_limits(head: &RecordHead, into: &mut [u8])
     requires there { 332 ≤ length into.old }
     requires few { length head.now.routes ≤ 256 }
-    ensures agrees { (bytes : List ℕ) → IsHeadStart head.now bytes → take 20 into.old ≡ take 20 bytes → take 44 into.new ≡ take 44 bytes }
+    ensures agrees { (bytes : List ℕ) → IsHeadStart head.now bytes
+        → take 20 into.old ≡ take 20 bytes → take 44 into.new ≡ take 44 bytes }
     ensures stays { (n : ℕ) → 44 ≤ n → drop n into.new ≡ drop n into.old }
 {
     put_u32(into, DATA_WINDOW, head.limits.data_window);
@@ -75,10 +77,14 @@ fn put_limits(head: &RecordHead, into: &mut [u8])
 // Words one after another, from an offset on.
 fn put_words(into: &mut [u8], offset: usize, words: &[u32])
     requires { offset + 4 * length words.now ≤ length into.old }
-    ensures agrees { (bytes : List ℕ) → AreBytes bytes → offset + 4 * length words.now ≤ length bytes
-        → AreNumbers words.now offset (length words.now) bytes → take offset into.old ≡ take offset bytes
-        → take (offset + 4 * length words.now) into.new ≡ take (offset + 4 * length words.now) bytes }
-    ensures stays { (n : ℕ) → offset + 4 * length words.now ≤ n → drop n into.new ≡ drop n into.old }
+    ensures agrees { (bytes : List ℕ) → AreBytes bytes
+        → offset + 4 * length words.now ≤ length bytes
+        → AreNumbers words.now offset (length words.now) bytes
+        → take offset into.old ≡ take offset bytes
+        → take (offset + 4 * length words.now) into.new
+        ≡ take (offset + 4 * length words.now) bytes }
+    ensures stays { (n : ℕ) → offset + 4 * length words.now ≤ n
+        → drop n into.new ≡ drop n into.old }
 {
     for i in 0..words.len() {
         put_u32(into, offset + 4 * i, words[i]);
@@ -89,7 +95,8 @@ fn put_words(into: &mut [u8], offset: usize, words: &[u32])
 fn put_limit(into: &mut [u8], bound: usize, limit: &Limit)
     requires bound { bound < 7 }
     requires there { 332 ≤ length into.old }
-    ensures agrees { (bytes : List ℕ) → IsLimitSpelled limit.now bound bytes → take (136 + 28 * bound) into.old ≡ take (136 + 28 * bound) bytes
+    ensures agrees { (bytes : List ℕ) → IsLimitSpelled limit.now bound bytes
+        → take (136 + 28 * bound) into.old ≡ take (136 + 28 * bound) bytes
         → take (164 + 28 * bound) into.new ≡ take (164 + 28 * bound) bytes }
     ensures stays { (n : ℕ) → 164 + 28 * bound ≤ n → drop n into.new ≡ drop n into.old }
 {
@@ -103,7 +110,8 @@ fn put_limit(into: &mut [u8], bound: usize, limit: &Limit)
 // A route of form 1.
 fn put_first_route(into: &mut [u8], place: u32, route: &Route)
     requires { route_at false place + 8 ≤ length into.old }
-    ensures agrees { (bytes : List ℕ) → IsFirstRoute route.now place bytes → take (route_at false place) into.old ≡ take (route_at false place) bytes
+    ensures agrees { (bytes : List ℕ) → IsFirstRoute route.now place bytes
+        → take (route_at false place) into.old ≡ take (route_at false place) bytes
         → take (route_at false place + 8) into.new ≡ take (route_at false place + 8) bytes }
     ensures stays { (n : ℕ) → route_at false place + 8 ≤ n → drop n into.new ≡ drop n into.old }
 {
@@ -115,7 +123,8 @@ fn put_first_route(into: &mut [u8], place: u32, route: &Route)
 // A route of form 2.
 fn put_second_route(into: &mut [u8], place: u32, route: &Route)
     requires { route_at true place + 16 ≤ length into.old }
-    ensures agrees { (bytes : List ℕ) → IsSecondRoute route.now place bytes → take (route_at true place) into.old ≡ take (route_at true place) bytes
+    ensures agrees { (bytes : List ℕ) → IsSecondRoute route.now place bytes
+        → take (route_at true place) into.old ≡ take (route_at true place) bytes
         → take (route_at true place + 16) into.new ≡ take (route_at true place + 16) bytes }
     ensures stays { (n : ℕ) → route_at true place + 16 ≤ n → drop n into.new ≡ drop n into.old }
 {
@@ -131,7 +140,8 @@ fn put_second_route(into: &mut [u8], place: u32, route: &Route)
 // All entries of the bounds.
 fn put_bounds(into: &mut [u8], bounds: &[Limit; 7])
     requires { 332 ≤ length into.old }
-    ensures agrees { (bytes : List ℕ) → AreLimitsSpelled bounds.now bytes → take 136 into.old ≡ take 136 bytes → take 332 into.new ≡ take 332 bytes }
+    ensures agrees { (bytes : List ℕ) → AreLimitsSpelled bounds.now bytes
+        → take 136 into.old ≡ take 136 bytes → take 332 into.new ≡ take 332 bytes }
     ensures stays { (n : ℕ) → 332 ≤ n → drop n into.new ≡ drop n into.old }
 {
     for bound in 0..7 {
@@ -143,7 +153,8 @@ fn put_bounds(into: &mut [u8], bounds: &[Limit; 7])
 fn put_first_routes(into: &mut [u8], routes: &[Route])
     requires few { length routes.now ≤ 256 }
     requires there { 332 + 8 * length routes.now ≤ length into.old }
-    ensures agrees { (bytes : List ℕ) → AreRoutesSpelled false routes.now bytes → take 332 into.old ≡ take 332 bytes
+    ensures agrees { (bytes : List ℕ) → AreRoutesSpelled false routes.now bytes
+        → take 332 into.old ≡ take 332 bytes
         → take (332 + 8 * length routes.now) into.new ≡ take (332 + 8 * length routes.now) bytes }
     ensures stays { (n : ℕ) → 332 + 8 * length routes.now ≤ n → drop n into.new ≡ drop n into.old }
 {
@@ -156,7 +167,8 @@ fn put_first_routes(into: &mut [u8], routes: &[Route])
 fn put_second_routes(into: &mut [u8], routes: &[Route])
     requires few { length routes.now ≤ 256 }
     requires there { 332 + 16 * length routes.now ≤ length into.old }
-    ensures agrees { (bytes : List ℕ) → AreRoutesSpelled true routes.now bytes → take 332 into.old ≡ take 332 bytes
+    ensures agrees { (bytes : List ℕ) → AreRoutesSpelled true routes.now bytes
+        → take 332 into.old ≡ take 332 bytes
         → take (332 + 16 * length routes.now) into.new ≡ take (332 + 16 * length routes.now) bytes }
     ensures stays { (n : ℕ) → 332 + 16 * length routes.now ≤ n → drop n into.new ≡ drop n into.old }
 {
@@ -169,9 +181,12 @@ fn put_second_routes(into: &mut [u8], routes: &[Route])
 fn put_routes(into: &mut [u8], second: bool, routes: &[Route])
     requires few { length routes.now ≤ 256 }
     requires there { 332 + route_size second * length routes.now ≤ length into.old }
-    ensures agrees { (bytes : List ℕ) → AreRoutesSpelled second routes.now bytes → take 332 into.old ≡ take 332 bytes
-        → take (332 + route_size second * length routes.now) into.new ≡ take (332 + route_size second * length routes.now) bytes }
-    ensures stays { (n : ℕ) → 332 + route_size second * length routes.now ≤ n → drop n into.new ≡ drop n into.old }
+    ensures agrees { (bytes : List ℕ) → AreRoutesSpelled second routes.now bytes
+        → take 332 into.old ≡ take 332 bytes
+        → take (332 + route_size second * length routes.now) into.new
+        ≡ take (332 + route_size second * length routes.now) bytes }
+    ensures stays { (n : ℕ) → 332 + route_size second * length routes.now ≤ n
+        → drop n into.new ≡ drop n into.old }
 {
     if second {
         put_second_routes(into, routes);
@@ -183,14 +198,15 @@ fn put_routes(into: &mut [u8], second: bool, routes: &[Route])
 /// Writes a header at the front of `into`, in the form that it names, and answers the number of its
 /// bytes: 332, and 8 or 16 for each route. All other bytes stay.
 ///
-/// The values obey the rules of a header. Reading it again gives the same, and writing what was read
-/// gives the same bytes.
+/// The values obey the rules of a header. Reading it again gives the same, and writing what was
+/// read gives the same bytes.
 pub fn encode_head(head: &RecordHead, into: &mut [u8]) -> usize
     requires valid { AreHeadValues head.now }
     requires room { size_of_head head.now ≤ length into.old }
     ensures length { result ≡ size_of_head head.now }
     ensures head { IsHead head.now (take result into.new) }
-    ensures again { (bytes : List ℕ) → AreBytes bytes → IsHead head.now bytes → take result into.new ≡ bytes }
+    ensures again { (bytes : List ℕ) → AreBytes bytes → IsHead head.now bytes
+        → take result into.new ≡ bytes }
     ensures behind { drop result into.new ≡ drop result into.old }
 {
     let second = head.form == 2;

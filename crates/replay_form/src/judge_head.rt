@@ -29,7 +29,8 @@ pub(crate) fn judge_head(bytes: &[u8], from: usize) -> Result<usize, usize>
     judge_routes(bytes, second, from.max(FIXED_FIELDS))
 }
 
-// The same, where the fields in front of the routes are right.
+// Judges the fields of a header in front of whose routes all fields are right, those in front of
+// `from` aside, and answers as `judge_head` does.
 fn judge_routes(bytes: &[u8], second: bool, from: usize) -> Result<usize, usize>
     requires form { second ≡ is_second bytes.now }
     requires right { AreRight bytes.now from }
@@ -42,7 +43,8 @@ fn judge_routes(bytes: &[u8], second: bool, from: usize) -> Result<usize, usize>
     judge_fields(bytes, second, from, FIXED_FIELDS + fields)
 }
 
-// The same of the fields in front of `to`.
+// Judges the fields in front of `to`, those in front of `from` aside, and answers as `judge_head`
+// does.
 fn judge_fields(bytes: &[u8], second: bool, from: usize, to: usize) -> Result<usize, usize>
     requires form { second ≡ is_second bytes.now }
     requires right { AreRight bytes.now from }
