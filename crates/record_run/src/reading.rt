@@ -101,7 +101,7 @@ fn feed_once<I: Intake, T: Teller<I>, K: Sink>(
             Err(NoMemory) => Err(Stop::Memory),
         },
         Ok((count, Event::Frame)) => {
-            tell_frame(alloc, intake, teller, &bytes[..count], out, sink);
+            tell_frame(intake, teller, &bytes[..count], out, sink);
             Ok(count)
         }
         Err(fault) => Err(Stop::Wrong {
@@ -132,7 +132,7 @@ fn tell_head<I: Intake, T: Teller<I>, K: Sink>(
 {
     match teller.begin(alloc, intake) {
         Ok(()) => {
-            settle(alloc, teller, out, sink);
+            settle(teller, out, sink);
             Ok(())
         }
         Err(NoMemory) => Err(NoMemory),
@@ -141,7 +141,6 @@ fn tell_head<I: Intake, T: Teller<I>, K: Sink>(
 
 // Tells of the frame that is whole with these bytes.
 fn tell_frame<I: Intake, T: Teller<I>, K: Sink>(
-    alloc: Global,
     intake: &I,
     teller: &mut T,
     bytes: &[u8],
@@ -165,8 +164,8 @@ fn tell_frame<I: Intake, T: Teller<I>, K: Sink>(
         × Sends text (way_of out.old (K.held sink.old) (K.faults sink.old))
         (way_of out.new (K.held sink.new) (K.faults sink.new))) }
 {
-    teller.frame(alloc, intake, bytes, &mut out.text);
-    settle(alloc, teller, out, sink);
+    teller.frame(intake, bytes, &mut out.text);
+    settle(teller, out, sink);
 }
 
 // The bytes behind the first ones.
@@ -180,7 +179,6 @@ fn behind(bytes: &[u8], count: usize) -> &[u8]
 
 /// Puts all that the teller owes on its way.
 pub(crate) fn settle<I: Intake, T: Teller<I>, K: Sink>(
-    alloc: Global,
     teller: &mut T,
     out: &mut Outgoing,
     sink: &mut K,
@@ -194,7 +192,7 @@ pub(crate) fn settle<I: Intake, T: Teller<I>, K: Sink>(
 {
     loop {
         out.send_if_full(sink);
-        if !teller.next(alloc, &mut out.text) {
+        if !teller.next(&mut out.text) {
             return;
         }
     }

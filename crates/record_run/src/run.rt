@@ -110,7 +110,7 @@ fn read_record<I: Intake, T: Teller<I>, S: Source, K: Sink>(
             Err(Failed) => return Status::ReadFault,
         };
         if count == 0 {
-            return end(alloc, intake, teller, &mut out, sink);
+            return end(intake, teller, &mut out, sink);
         }
         let within = first_of(count, left);
         if let Err(status) = take(alloc, intake, teller, &mut out, &piece[..within], sink) {
@@ -179,7 +179,6 @@ fn take<I: Intake, T: Teller<I>, K: Sink>(
 
 // The status at the end of the bytes, behind which the rest of the text is written.
 fn end<I: Intake, T: Teller<I>, K: Sink>(
-    alloc: Global,
     intake: &I,
     teller: &mut T,
     out: &mut Outgoing,
@@ -199,8 +198,8 @@ fn end<I: Intake, T: Teller<I>, K: Sink>(
 {
     match intake.finish() {
         Ok(()) => {
-            teller.end(alloc, &mut out.text);
-            settle(alloc, teller, out, sink);
+            teller.end(&mut out.text);
+            settle(teller, out, sink);
             match out.flush(sink) {
                 Ok(()) => Status::Done,
                 Err(Failed) => Status::WriteFault,

@@ -28,7 +28,7 @@ pub trait Teller<I: Intake> {
         ensures starts { OnOk result ((tells self.new).started ≡ true) };
 
     /// Tells of the frame that the intake made whole, with the bytes that it took last.
-    fn frame(&mut self, alloc: Global, intake: &I, bytes: &[u8], out: &mut TextBuffer)
+    fn frame(&mut self, intake: &I, bytes: &[u8], out: &mut TextBuffer)
         requires room { length out.old < 65536 }
         requires count { (frame : I.Frame) → (I.reads intake.now).frame bytes.now frame
             → (tells self.old).count + 1 + I.grammar.size frame < 2 ^ 63 }
@@ -45,7 +45,7 @@ pub trait Teller<I: Intake> {
             → Puts head (frame ∷ []) out.old out.new (tells self.old) (tells self.new) };
 
     /// Tells that no more frames are to come.
-    fn end(&mut self, alloc: Global, out: &mut TextBuffer)
+    fn end(&mut self, out: &mut TextBuffer)
         requires room { length out.old < 65536 }
         requires open { (tells self.old).ended ≡ false }
         requires settled { IsSettled (tells self.old) }
@@ -54,7 +54,7 @@ pub trait Teller<I: Intake> {
             → PutsEnd head out.old out.new (tells self.old) (tells self.new) };
 
     /// Puts something that is owed, and tells whether there was something.
-    fn next(&mut self, alloc: Global, out: &mut TextBuffer) -> bool
+    fn next(&mut self, out: &mut TextBuffer) -> bool
         requires room { length out.old < 65536 }
         requires started { (tells self.old).started ≡ true }
         ensures started { (tells self.new).started ≡ true }

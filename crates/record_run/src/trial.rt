@@ -107,18 +107,18 @@ impl<I: Intake> Teller<I> for TrialTeller {
         Ok(())
     }
 
-    fn frame(&mut self, _alloc: Global, _intake: &I, _bytes: &[u8], out: &mut TextBuffer) {
+    fn frame(&mut self, _intake: &I, _bytes: &[u8], out: &mut TextBuffer) {
         self.told += 1;
         put_number(out, b"frame ", self.told);
         self.owes = true;
     }
 
-    fn end(&mut self, _alloc: Global, _out: &mut TextBuffer) {
+    fn end(&mut self, _out: &mut TextBuffer) {
         self.ended = true;
         self.owes = true;
     }
 
-    fn next(&mut self, _alloc: Global, out: &mut TextBuffer) -> bool {
+    fn next(&mut self, out: &mut TextBuffer) -> bool {
         self.put_owed(out)
     }
 }
