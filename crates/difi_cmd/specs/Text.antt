@@ -24,8 +24,8 @@ IsTurnedAway head datagram (Refused word) =
 IsTurnedAway head datagram TooLarge = 4 * head.max_words < length datagram
 
 -- what is judged of a datagram
-abbrev pub IsJudged : RecordHead → List ℕ → Judgement → Type 0
-IsJudged head datagram judgement =
+abbrev pub IsJudgement : RecordHead → List ℕ → Judgement → Type 0
+IsJudgement head datagram judgement =
     ((value : PacketValue) × (IsAccepted head datagram value × (judgement ≡ accepted value))) ⊎ IsTurnedAway head datagram judgement
 
 -- what is told of a datagram

@@ -1,6 +1,6 @@
 ghost use Rattle.std.specs.Prelude.{◌≡◌, ◌*◌, ◌<◌, ◌↔◌, IsTrue, length, IfOk, IfErr};
 ghost use Rattle.difi_packet.specs.Packet.{value_of};
-ghost use Rattle.difi_cmd.specs.Text.{IsAccepted, IsTurnedAway, IsJudged};
+ghost use Rattle.difi_cmd.specs.Text.{IsAccepted, IsTurnedAway, IsJudgement};
 
 use difi_packet::{Packet, classify, decode};
 use difi_texts::Judgement;
@@ -8,7 +8,7 @@ use replay_form::RecordHead;
 
 /// What is judged of the datagram of a frame.
 pub(crate) fn judge(head: &RecordHead, datagram: &[u8]) -> Judgement
-    ensures { IsJudged head.now datagram.now result }
+    ensures { IsJudgement head.now datagram.now result }
 {
     if is_too_large(head, datagram) {
         return Judgement::TooLarge;

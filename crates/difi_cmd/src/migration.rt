@@ -108,18 +108,18 @@ impl Teller<RecordReader> for Migration {
         Ok(())
     }
 
-    fn frame(&mut self, _alloc: Global, intake: &RecordReader, bytes: &[u8], out: &mut TextBuffer) {
+    fn frame(&mut self, intake: &RecordReader, bytes: &[u8], out: &mut TextBuffer) {
         let Some(frame) = intake.frame_bytes(bytes) else {
             unreachable!()
         };
         self.put(frame, out);
     }
 
-    fn end(&mut self, _alloc: Global, _out: &mut TextBuffer) {
+    fn end(&mut self, _out: &mut TextBuffer) {
         self.ended = true;
     }
 
-    fn next(&mut self, _alloc: Global, out: &mut TextBuffer) -> bool {
+    fn next(&mut self, out: &mut TextBuffer) -> bool {
         if self.header.is_empty() {
             return false;
         }

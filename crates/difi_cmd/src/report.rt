@@ -49,7 +49,7 @@ impl Report {
     }
 
     // Judges a frame, counts it and puts what is told of it behind the text.
-    fn tell(&mut self, alloc: Global, head: &RecordHead, datagram: &[u8], out: &mut TextBuffer)
+    fn tell(&mut self, head: &RecordHead, datagram: &[u8], out: &mut TextBuffer)
         requires fits { self.old.frames + 1 < 2 ^ 63 }
         requires room { length out.old < 65536 }
         ensures { (account : Account) × IsAccount self.old.listing head.now datagram.now account
@@ -57,32 +57,32 @@ impl Report {
     {
         match self.listing {
             Listing::Check => self.note(judge(head, datagram), out),
-            Listing::Show => self.tell_all(alloc, head, datagram, out),
+            Listing::Show => self.tell_all(head, datagram, out),
         }
     }
 
     // The same with what a packet holds.
     #[inline(never)]
-    fn tell_all(&mut self, alloc: Global, head: &RecordHead, datagram: &[u8], out: &mut TextBuffer)
+    fn tell_all(&mut self, head: &RecordHead, datagram: &[u8], out: &mut TextBuffer)
         requires fits { self.old.frames + 1 < 2 ^ 63 }
         requires room { length out.old < 65536 }
         ensures { (account : Account) × IsAccount self.old.listing head.now datagram.now account
             × IsNoted self.old self.new out.old out.new account }
     {
         match packet_in(head, datagram) {
-            Ok(packet) => self.note_packet(alloc, &packet, out),
+            Ok(packet) => self.note_packet(&packet, out),
             Err(judgement) => self.note(judgement, out),
         }
     }
 
     // Counts a packet, and puts what is told of it behind the text.
-    fn note_packet(&mut self, alloc: Global, packet: &Packet<'_>, out: &mut TextBuffer)
+    fn note_packet(&mut self, packet: &Packet<'_>, out: &mut TextBuffer)
         requires fits { self.old.frames + 1 < 2 ^ 63 }
         requires room { length out.old < 65536 }
         ensures { IsNoted self.old self.new out.old out.new (account_of self.old.listing (value_of packet.now)) }
     {
         self.note(accepted(packet), out);
-        push_under(alloc, out, self.listing, packet);
+        push_under(out, self.listing, packet);
     }
 
     // Counts a frame, and puts its line behind the text.
@@ -115,23 +115,23 @@ impl Teller<RecordReader> for Report {
     }
 
     #[inline(always)]
-    fn frame(&mut self, alloc: Global, intake: &RecordReader, bytes: &[u8], out: &mut TextBuffer) {
+    fn frame(&mut self, intake: &RecordReader, bytes: &[u8], out: &mut TextBuffer) {
         let Some(head) = intake.head() else {
             unreachable!()
         };
         let Some((_, _, datagram)) = intake.frame(bytes) else {
             unreachable!()
         };
-        self.tell(alloc, head, datagram, out);
+        self.tell(head, datagram, out);
     }
 
-    fn end(&mut self, _alloc: Global, out: &mut TextBuffer) {
+    fn end(&mut self, out: &mut TextBuffer) {
         push_counts(out, self.frames.number(), self.accepted);
         self.ended = true;
     }
 
     #[inline(always)]
-    fn next(&mut self, _alloc: Global, _out: &mut TextBuffer) -> bool {
+    fn next(&mut self, _out: &mut TextBuffer) -> bool {
         false
     }
 }

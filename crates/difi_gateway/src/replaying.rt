@@ -57,13 +57,7 @@ impl Teller<RecordReader> for Replay {
         Ok(())
     }
 
-    fn frame(
-        &mut self,
-        _alloc: Global,
-        intake: &RecordReader,
-        bytes: &[u8],
-        _out: &mut TextBuffer,
-    ) {
+    fn frame(&mut self, intake: &RecordReader, bytes: &[u8], _out: &mut TextBuffer) {
         let Some(received) = intake.frame(bytes) else {
             unreachable!()
         };
@@ -74,14 +68,14 @@ impl Teller<RecordReader> for Replay {
         gateway.frame(moment, port, datagram);
     }
 
-    fn end(&mut self, _alloc: Global, _out: &mut TextBuffer) {
+    fn end(&mut self, _out: &mut TextBuffer) {
         let Some(gateway) = &mut self.gateway else {
             unreachable!()
         };
         gateway.end();
     }
 
-    fn next(&mut self, _alloc: Global, out: &mut TextBuffer) -> bool {
+    fn next(&mut self, out: &mut TextBuffer) -> bool {
         let Some(gateway) = &mut self.gateway else {
             unreachable!()
         };

@@ -9,7 +9,7 @@ use Rattle.replay_form.specs.declared.event.RecordFault.{RecordFault}
 use Rattle.replay_form.proofs.ReadingLaws.{kept_whole, not_both}
 use Rattle.pcap_frames.specs.CaptureFields.{Captured, IsCaptured, IsFilePart, captured_in}
 use Rattle.pcap_frames.specs.CaptureFile.{EndsInside, IsCapture, IsCaptureWrongAt, IsCut, IsHeaded}
-use Rattle.pcap_frames.specs.Reading.{Reading, begun, held_record, IsRecordIn, IsBeginning, IsOpening, IsGoing, StandsIn, StandsSound, StandsWith, StandsFor, IsFresh, IsMoreIn, IsMore, IsHeadRead, IsFileRead, IsRecordRead, IsStep, IsWrongIn, IsFailed, IsShortIn, IsUnfinished, IsFinished, IsHeaderKept, IsKeptIn, Keeps, records_after}
+use Rattle.pcap_frames.specs.Reading.{Reading, begun, held_record, IsRecordIn, IsBeginning, IsOpening, IsGoing, StandsIn, StandsSound, StandsWith, StandsFor, IsFresh, IsMoreIn, IsMore, IsHeadRead, IsFileRead, IsRecordRead, IsNextReading, IsWrongIn, IsFailed, IsShortIn, IsUnfinished, IsAtEnd, IsHeaderKept, IsKeptIn, Keeps, records_after}
 use Rattle.pcap_frames.specs.declared.event.CaptureEvent.{CaptureEvent}
 use Rattle.pcap_frames.specs.declared.event.CaptureEvent.TheVariants as events
 use Rattle.pcap_frames.specs.declared.form.FileForm.{FileForm}
@@ -165,7 +165,7 @@ record_stands old piece count new taken records step stands =
 
 -- each call adds its bytes, and its record
 pub step_stands : (old : Reading) (piece : List ℕ) (count : ℕ) (event : CaptureEvent) (new : Reading) (taken : List ℕ) (records : List Captured)
-    → IsStep old piece count event new → StandsFor old taken records → StandsFor new (taken ++ take count piece) (records_after event records new (take count piece))
+    → IsNextReading old piece count event new → StandsFor old taken records → StandsFor new (taken ++ take count piece) (records_after event records new (take count piece))
 step_stands old piece count events.More new taken records step stands = more_stands old piece count new taken records step stands
 step_stands old piece count events.Head new taken records step stands = head_stands old piece count new taken records step stands
 step_stands old piece count events.File new taken records step stands = file_stands old piece count new taken records step stands
@@ -237,21 +237,21 @@ more_sound stages.Header old piece new more = ap (λ (r : Reading). r.fault) mor
 more_sound stages.FileHead old piece new more = ap (λ (r : Reading). r.fault) more.after
 more_sound (stages.Records form) old piece new more = ap (λ (r : Reading). r.fault) more.after
 
-pub step_sound : (old : Reading) (piece : List ℕ) (count : ℕ) (event : CaptureEvent) (new : Reading) → IsStep old piece count event new → new.fault ≡ None
+pub step_sound : (old : Reading) (piece : List ℕ) (count : ℕ) (event : CaptureEvent) (new : Reading) → IsNextReading old piece count event new → new.fault ≡ None
 step_sound old piece count events.More new step = more_sound old.stage old piece new step.staged ∙ step.sound
 step_sound old piece count events.Head new step = ap (λ (r : Reading). r.fault) step.after ∙ step.sound
 step_sound old piece count events.File new step = ap (λ (r : Reading). r.fault) step.after ∙ step.sound
 step_sound old piece count events.Record new step = ap (λ (r : Reading). r.fault) step.after ∙ step.sound
 
 -- and takes no more bytes than there are
-pub step_few : (old : Reading) (piece : List ℕ) (count : ℕ) (event : CaptureEvent) (new : Reading) → IsStep old piece count event new → count ≤ length piece
+pub step_few : (old : Reading) (piece : List ℕ) (count : ℕ) (event : CaptureEvent) (new : Reading) → IsNextReading old piece count event new → count ≤ length piece
 step_few old piece count events.More new step = (let e = step.all in omega arith)
 step_few old piece count events.Head new step = step.few
 step_few old piece count events.File new step = step.few
 step_few old piece count events.Record new step = step.few
 
 -- the end: a capture was read,
-pub finished_read : (reading : Reading) (taken : List ℕ) (records : List Captured) → IsFinished reading → StandsFor reading taken records
+pub finished_read : (reading : Reading) (taken : List ℕ) (records : List Captured) → IsAtEnd reading → StandsFor reading taken records
     → (form : FileForm) × IsCapture reading.header.head form records taken
 finished_read reading taken records ends stands =
     let s = sound_stands reading taken records ends.sound stands in
@@ -292,7 +292,7 @@ idle_in stages.Header old piece new more = ap (λ (r : Reading). r.whole) more.a
 idle_in stages.FileHead old piece new more = ap (λ (r : Reading). r.whole) more.after
 idle_in (stages.Records form) old piece new more = ap (λ (r : Reading). r.whole) more.after
 
-pub step_lies : (old : Reading) (piece : List ℕ) (count : ℕ) (event : CaptureEvent) (new : Reading) → IsStep old piece count event new → new.whole ≡ true
+pub step_lies : (old : Reading) (piece : List ℕ) (count : ℕ) (event : CaptureEvent) (new : Reading) → IsNextReading old piece count event new → new.whole ≡ true
     → IsRecordIn new (take count piece)
 step_lies old piece count events.More new step whole = not_both new.whole whole (idle_in old.stage old piece new step.staged)
 step_lies old piece count events.Head new step whole = not_both new.whole whole (ap (λ (r : Reading). r.whole) step.after)

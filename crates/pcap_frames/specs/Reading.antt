@@ -144,11 +144,11 @@ pub record IsRecordRead (old : Reading) (piece : List ℕ) (count : ℕ) (new : 
     held = kept_of (begun old) (take count piece);
   }
 
-abbrev pub IsStep : Reading → List ℕ → ℕ → CaptureEvent → Reading → Type 0
-IsStep old piece count events.More new = IsMore old piece count new
-IsStep old piece count events.Head new = IsHeadRead old piece count new
-IsStep old piece count events.File new = IsFileRead old piece count new
-IsStep old piece count events.Record new = IsRecordRead old piece count new
+abbrev pub IsNextReading : Reading → List ℕ → ℕ → CaptureEvent → Reading → Type 0
+IsNextReading old piece count events.More new = IsMore old piece count new
+IsNextReading old piece count events.Head new = IsHeadRead old piece count new
+IsNextReading old piece count events.File new = IsFileRead old piece count new
+IsNextReading old piece count events.Record new = IsRecordRead old piece count new
 
 -- A fault stays. A new one is at the first field that is wrong.
 abbrev pub IsWrongIn : Stage → Reading → List ℕ → ℕ → Type 0
@@ -203,7 +203,7 @@ abbrev pub IsUnfinished : Option RecordFault → Reading → ℕ → Type 0
 IsUnfinished (Some fault) reading offset = offset ≡ fault.offset
 IsUnfinished None reading offset = (offset ≡ reading.start + length (begun reading)) × IsShortIn reading.stage reading
 
-pub record IsFinished (reading : Reading) : Type 0 where
+pub record IsAtEnd (reading : Reading) : Type 0 where
   pub sound : reading.fault ≡ None
   pub form : FileForm
   pub stage : reading.stage ≡ stages.Records form

@@ -32,10 +32,15 @@ const UDP_HEADER: usize = 8;
 const FEWEST: usize = 42;
 
 /// The UDP datagram that the bytes of an Ethernet frame hold, if they do: behind at most two tags
-/// (IEEE 802.1Q), in an IPv4 packet that is no fragment (RFC 791), whose bytes are all there, with the
-/// length of the UDP header inside the packet (RFC 768). Checksums are not judged.
+/// (IEEE 802.1Q), in an IPv4 packet that is no fragment (RFC 791), whose bytes are all there, with
+/// the length of the UDP header inside the packet (RFC 768). Checksums are not judged.
 pub fn datagram_of(bytes: &[u8]) -> Option<Datagram<'_>>
-    ensures found { IfSome result (λ d. HoldsDatagram (record { source = d.source; destination = d.destination; payload = d.payload.now }) bytes.now) }
+    ensures found { IfSome result
+        (λ d. HoldsDatagram (record {
+          source = d.source;
+          destination = d.destination;
+          payload = d.payload.now;
+        }) bytes.now) }
     ensures none { IfNone result ((datagram : UdpDatagram) → ¬ HoldsDatagram datagram bytes.now) }
 {
     if bytes.len() < FEWEST {
@@ -84,8 +89,10 @@ fn start_of_packet(bytes: &[u8]) -> Option<usize>
 fn datagram_in(bytes: &[u8], start: usize) -> Option<Datagram<'_>>
     requires long { 42 ≤ length bytes.now }
     requires low { start ≤ 22 }
-    ensures found { IfSome result (λ d. IsUdpAt bytes.now start × (record { source = d.source; destination = d.destination; payload = d.payload.now }
-        ≡ datagram_at bytes.now (start + header_size bytes.now start) (datagram_size bytes.now start))) }
+    ensures found { IfSome result (λ d. IsUdpAt bytes.now start
+        × (record { source = d.source; destination = d.destination; payload = d.payload.now }
+        ≡ datagram_at bytes.now (start + header_size bytes.now start)
+        (datagram_size bytes.now start))) }
     ensures none { IfNone result (¬ IsUdpAt bytes.now start) }
 {
     let first = bytes[start];
@@ -113,14 +120,17 @@ fn datagram_in(bytes: &[u8], start: usize) -> Option<Datagram<'_>>
     datagram_within(bytes, start + header, total - header)
 }
 
-// The datagram whose header begins at this offset and that has at most `room` bytes, if its length is
-// one.
+// The datagram whose header begins at this offset and that has at most `room` bytes, if its length
+// is one.
 fn datagram_within(bytes: &[u8], offset: usize, room: usize) -> Option<Datagram<'_>>
     requires least { 8 ≤ room }
     requires there { offset + room ≤ length bytes.now }
-    ensures found { IfSome result (λ d. (8 ≤ number_at (offset + 4) bytes.now) × ((number_at (offset + 4) bytes.now ≤ room)
-        × (record { source = d.source; destination = d.destination; payload = d.payload.now } ≡ datagram_at bytes.now offset (number_at (offset + 4) bytes.now)))) }
-    ensures none { IfNone result ((number_at (offset + 4) bytes.now < 8) ⊎ (room < number_at (offset + 4) bytes.now)) }
+    ensures found { IfSome result (λ d. (8 ≤ number_at (offset + 4) bytes.now)
+        × ((number_at (offset + 4) bytes.now ≤ room)
+        × (record { source = d.source; destination = d.destination; payload = d.payload.now }
+        ≡ datagram_at bytes.now offset (number_at (offset + 4) bytes.now)))) }
+    ensures none { IfNone result ((number_at (offset + 4) bytes.now < 8)
+        ⊎ (room < number_at (offset + 4) bytes.now)) }
 {
     let length = u16_in(true, bytes, offset + 4) as usize;
     if length < UDP_HEADER {

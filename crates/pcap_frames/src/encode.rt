@@ -13,7 +13,8 @@ use replay_form::Stamp;
 pub fn encode_file_head(form: FileForm, into: &mut [u8])
     requires { 24 ≤ length into.old }
     ensures head { IsFileHead form (take 24 into.new) }
-    ensures free { (number_in form.big 8 4 into.new ≡ 0) × ((number_in form.big 12 4 into.new ≡ 0) × (number_in form.big 16 4 into.new ≡ 262144)) }
+    ensures free { (number_in form.big 8 4 into.new ≡ 0)
+        × ((number_in form.big 12 4 into.new ≡ 0) × (number_in form.big 16 4 into.new ≡ 262144)) }
     ensures behind { drop 24 into.new ≡ drop 24 into.old }
 {
     put_u32(true, into, 0, magic(form));
@@ -25,8 +26,8 @@ pub fn encode_file_head(form: FileForm, into: &mut [u8])
     put_u32(form.big, into, 20, ETHERNET);
 }
 
-/// Writes a record at the front of `into`: what was captured at this time, all of it. Answers the number
-/// of bytes, which is 16 more than were captured. All other bytes stay.
+/// Writes a record at the front of `into`: what was captured at this time, all of it. Answers the
+/// number of bytes, which is 16 more than were captured. All other bytes stay.
 ///
 /// The time must be whole in the unit of the form's fractions.
 pub fn encode_capture(form: FileForm, time: Stamp, bytes: &[u8], into: &mut [u8]) -> usize
@@ -34,7 +35,8 @@ pub fn encode_capture(form: FileForm, time: Stamp, bytes: &[u8], into: &mut [u8]
     requires most { length bytes.now ≤ 262144 }
     requires room { 16 + length bytes.now ≤ length into.old }
     ensures length { result ≡ 16 + length bytes.now }
-    ensures captured { IsCaptured form (record { stamp = time; bytes = bytes.now }) (take result into.new) }
+    ensures captured { IsCaptured form (record { stamp = time; bytes = bytes.now })
+        (take result into.new) }
     ensures original { number_in form.big 12 4 into.new ≡ length bytes.now }
     ensures behind { drop result into.new ≡ drop result into.old }
 {

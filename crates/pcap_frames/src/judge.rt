@@ -33,8 +33,8 @@ fn form_of(magic: u32) -> Option<FileForm>
     Some(FileForm { big, nanos })
 }
 
-/// Judges the fields of a file's head whose bytes are all there. Answers the form of the file once its
-/// head is whole, or `Err` with the offset of the first field that is wrong.
+/// Judges the fields of a file's head whose bytes are all there. Answers the form of the file once
+/// its head is whole, or `Err` with the offset of the first field that is wrong.
 pub(crate) fn judge_file_head(bytes: &[u8]) -> Result<Option<FileForm>, usize>
     requires { length bytes.now ≤ 24 }
     ensures judged { IfOk result (λ form. IsFileJudged form bytes.now) }
@@ -82,8 +82,8 @@ pub(crate) fn size_of_record(form: FileForm, bytes: &[u8]) -> usize
     RECORD_HEAD + u32_in(form.big, bytes, 8) as usize
 }
 
-/// Judges the fields of a record whose bytes are all there, or gives `Err` with the offset of the first
-/// that is wrong.
+/// Judges the fields of a record whose bytes are all there, or gives `Err` with the offset of the
+/// first that is wrong.
 pub(crate) fn judge_record(form: FileForm, bytes: &[u8]) -> Result<(), usize>
     ensures right { OnOk result (AreRecordFields form (length bytes.now) bytes.now) }
     ensures wrong { IfErr result (λ offset. IsRecordWrongAt form bytes.now offset) }
@@ -103,12 +103,14 @@ pub(crate) fn judge_record(form: FileForm, bytes: &[u8]) -> Result<(), usize>
     Ok(())
 }
 
-/// The bytes of the record with which these begin, where all of it is there and none of it is wrong.
+/// The bytes of the record with which these begin, where all of it is there and none of it is
+/// wrong.
 #[inline]
 pub(crate) fn whole_record(form: FileForm, bytes: &[u8]) -> Option<usize>
     ensures few { IfSome result (λ size. size ≤ length bytes.now) }
     ensures whole { IfSome result (λ size. IsWholeRecord form (take size bytes.now)) }
-    ensures none { IfNone result ((n : ℕ) → n ≤ length bytes.now → ¬ IsWholeRecord form (take n bytes.now)) }
+    ensures none { IfNone result ((n : ℕ) → n ≤ length bytes.now
+        → ¬ IsWholeRecord form (take n bytes.now)) }
 {
     if bytes.len() < RECORD_HEAD {
         return None;

@@ -6,7 +6,7 @@ ghost use Rattle.replay_form.specs.Record.{first_stamp};
 ghost use Rattle.vrt_time.specs.Time.{TimeStamp};
 ghost use Rattle.pcap_frames.specs.CaptureFields.{Captured, IsWholeRecord, captured_in, unit_of};
 ghost use Rattle.pcap_frames.specs.CaptureFile.{IsCapture, IsCaptureWrongAt, EndsInside};
-ghost use Rattle.pcap_frames.specs.Reading.{StandsFor, IsFresh, IsStep, IsFailed, IsNewFault, IsFinished, IsUnfinished, IsRecordIn, begun, records_after, held_record};
+ghost use Rattle.pcap_frames.specs.Reading.{StandsFor, IsFresh, IsNextReading, IsFailed, IsNewFault, IsAtEnd, IsUnfinished, IsRecordIn, begun, records_after, held_record};
 ghost use Rattle.pcap_frames.specs.declared.form.FileForm.{FileForm};
 ghost use Rattle.pcap_frames.specs.declared.stage.Stage.TheVariants as stages;
 
@@ -21,9 +21,9 @@ use std::alloc::Global;
 use std::marker::Model;
 use vrt_words::NoMemory;
 
-/// Reads the header of a record and a capture file behind it, in any pieces: the header, the head of
-/// the file, and then its records one by one, each judged as soon as it is there. It takes all its
-/// memory at opening, and copies no record that stands whole in a piece.
+/// Reads the header of a record and a capture file behind it, in any pieces: the header, the head
+/// of the file, and then its records one by one, each judged as soon as it is there. It takes all
+/// its memory at opening, and copies no record that stands whole in a piece.
 #[derive(Drop)]
 pub struct CaptureReader {
     header: RecordReader,
@@ -71,28 +71,36 @@ impl CaptureReader {
         })
     }
 
-    /// Takes bytes of the piece up to the next whole header, file head or record, and answers how many.
+    /// Takes bytes of the piece up to the next whole header, file head or record, and answers how
+    /// many.
     ///
-    /// `More` says that all were taken. `Err` comes at the first field that is wrong, as soon as its
-    /// bytes are there, and then at every later call; a header that is whole stays.
+    /// `More` says that all were taken. `Err` comes at the first field that is wrong, as soon as
+    /// its bytes are there, and then at every later call; a header that is whole stays.
     pub fn feed(&mut self, piece: &[u8]) -> Result<(usize, CaptureEvent), RecordFault>
-        requires { self.old.fault ≡ None → self.old.start + length (begun self.old) + length piece.now < 2 ^ 63 }
+        requires { self.old.fault ≡ None
+            → self.old.start + length (begun self.old) + length piece.now < 2 ^ 63 }
 
         // Over all bytes that were ever given, however they were cut.
-        ensures stands { IfOk result (λ step. (taken : List ℕ) (records : List Captured) → StandsFor self.old taken records
-            → StandsFor self.new (taken ++ take step.0 piece.now) (records_after step.1 records self.new (take step.0 piece.now))) }
-        ensures fails { OnErr result ((taken : List ℕ) (records : List Captured) → StandsFor self.old taken records
+        ensures stands { IfOk result (λ step. (taken : List ℕ) (records : List Captured)
+            → StandsFor self.old taken records
+            → StandsFor self.new (taken ++ take step.0 piece.now)
+            (records_after step.1 records self.new (take step.0 piece.now))) }
+        ensures fails { OnErr result ((taken : List ℕ) (records : List Captured)
+            → StandsFor self.old taken records
             → StandsFor self.new (taken ++ piece.now) records) }
 
         ensures few { IfOk result (λ step. step.0 ≤ length piece.now) }
         ensures progress { IfOk result (λ step. 0 < length piece.now → 0 < step.0) }
 
         // The record that is whole can be told with the bytes taken.
-        ensures lies { IfOk result (λ step. self.new.whole ≡ true → IsRecordIn self.new (take step.0 piece.now)) }
+        ensures lies { IfOk result (λ step. self.new.whole ≡ true
+            → IsRecordIn self.new (take step.0 piece.now)) }
 
-        // The same, by what the reader knows.
-        ensures step { IfOk result (λ step. IsStep self.old piece.now step.0 step.1 self.new) }
-        ensures wrong { IfErr result (λ fault. IsFailed self.old.fault self.old piece.now fault.offset self.new) }
+        // What a call does and where it fails, by what the reader knows.
+        ensures step { IfOk result
+            (λ step. IsNextReading self.old piece.now step.0 step.1 self.new) }
+        ensures wrong { IfErr result
+            (λ fault. IsFailed self.old.fault self.old piece.now fault.offset self.new) }
         ensures idle { OnErr result (self.new.whole ≡ false) }
         ensures kept { OnErr result (KeepsHead self.old.header self.new.header) }
     {
@@ -101,7 +109,9 @@ impl CaptureReader {
 
     /// The header, once it is whole.
     pub fn head(&self) -> Option<&RecordHead>
-        ensures head { MatchOption result (self.now.header.started ≡ false) (λ head. (self.now.header.started ≡ true) × (head.now ≡ self.now.header.head)) }
+        ensures head { MatchOption result (self.now.header.started ≡ false)
+            (λ head. (self.now.header.started ≡ true)
+            × (head.now ≡ self.now.header.head)) }
         ensures spelled { IfSome result (λ head. IsSpelledHead head.now) }
         ensures valid { IfSome result (λ head. AreHeadValues head.now) }
     {
@@ -112,8 +122,10 @@ impl CaptureReader {
     /// bytes. It is given the bytes that this call took, where the record may stand.
     pub fn record<'a>(&'a self, taken: &'a [u8]) -> Option<(Stamp, &'a [u8])>
         requires { self.now.whole ≡ true → IsRecordIn self.now taken.now }
-        ensures held { MatchOption result (self.now.whole ≡ false) (λ record_. (self.now.whole ≡ true)
-            × (held_record self.now taken.now ≡ record { stamp = record_.0; bytes = record_.1.now })) }
+        ensures held { MatchOption result (self.now.whole ≡ false)
+            (λ record_. (self.now.whole ≡ true)
+            × (held_record self.now taken.now
+            ≡ record { stamp = record_.0; bytes = record_.1.now })) }
         ensures most { IfSome result (λ record_. length record_.1.now ≤ 262144) }
     {
         if !self.whole {
@@ -129,21 +141,26 @@ impl CaptureReader {
     /// header, the head of the file or a record, with their number.
     pub fn finish(&self) -> Result<(), RecordFault>
         // Over all bytes that were ever given, however they were cut.
-        ensures capture_read { OnOk result ((taken : List ℕ) (records : List Captured) → StandsFor self.now taken records
+        ensures capture_read { OnOk result ((taken : List ℕ) (records : List Captured)
+            → StandsFor self.now taken records
             → (form : FileForm) × IsCapture self.now.header.head form records taken) }
-        ensures no_capture { IfErr result (λ fault. (taken : List ℕ) (records : List Captured) → StandsFor self.now taken records
-            → IsCaptureWrongAt records taken fault.offset ⊎ (EndsInside taken × (fault.offset ≡ length taken))) }
+        ensures no_capture { IfErr result (λ fault. (taken : List ℕ) (records : List Captured)
+            → StandsFor self.now taken records
+            → IsCaptureWrongAt records taken fault.offset
+            ⊎ (EndsInside taken × (fault.offset ≡ length taken))) }
 
-        // The same, by what the reader knows.
-        ensures finished { OnOk result (IsFinished self.now) }
-        ensures unfinished { IfErr result (λ fault. IsUnfinished self.now.fault self.now fault.offset) }
+        // Where a capture ends, and where it does not, by what the reader knows.
+        ensures finished { OnOk result (IsAtEnd self.now) }
+        ensures unfinished { IfErr result
+            (λ fault. IsUnfinished self.now.fault self.now fault.offset) }
     {
         self.ending()
     }
 
     fn ending(&self) -> Result<(), RecordFault>
-        ensures finished { OnOk result (IsFinished self.now) }
-        ensures unfinished { IfErr result (λ fault. IsUnfinished self.now.fault self.now fault.offset) }
+        ensures finished { OnOk result (IsAtEnd self.now) }
+        ensures unfinished { IfErr result
+            (λ fault. IsUnfinished self.now.fault self.now fault.offset) }
     {
         if let Some(standing) = self.fault {
             return Err(standing);
@@ -164,10 +181,13 @@ impl CaptureReader {
 
     // One call of `feed`.
     fn advance(&mut self, piece: &[u8]) -> Result<(usize, CaptureEvent), RecordFault>
-        requires { self.old.fault ≡ None → self.old.start + length (begun self.old) + length piece.now < 2 ^ 63 }
-        ensures step { IfOk result (λ step. IsStep self.old piece.now step.0 step.1 self.new) }
+        requires { self.old.fault ≡ None
+            → self.old.start + length (begun self.old) + length piece.now < 2 ^ 63 }
+        ensures step { IfOk result
+            (λ step. IsNextReading self.old piece.now step.0 step.1 self.new) }
         ensures progress { IfOk result (λ step. 0 < length piece.now → 0 < step.0) }
-        ensures wrong { IfErr result (λ fault. IsFailed self.old.fault self.old piece.now fault.offset self.new) }
+        ensures wrong { IfErr result
+            (λ fault. IsFailed self.old.fault self.old piece.now fault.offset self.new) }
         ensures idle { OnErr result (self.new.whole ≡ false) }
         ensures kept { OnErr result (KeepsHead self.old.header self.new.header) }
     {
@@ -181,14 +201,16 @@ impl CaptureReader {
         }
     }
 
-    // The same before the header is whole.
+    // Takes bytes of the piece up to the end of the header, which is not whole yet.
     fn feed_header(&mut self, piece: &[u8]) -> Result<(usize, CaptureEvent), RecordFault>
         requires sound { self.old.fault ≡ None }
         requires stage { self.old.stage ≡ stages.Header }
         requires small { self.old.start + length (begun self.old) + length piece.now < 2 ^ 63 }
-        ensures step { IfOk result (λ step. IsStep self.old piece.now step.0 step.1 self.new) }
+        ensures step { IfOk result
+            (λ step. IsNextReading self.old piece.now step.0 step.1 self.new) }
         ensures progress { IfOk result (λ step. 0 < length piece.now → 0 < step.0) }
-        ensures wrong { IfErr result (λ fault. IsNewFault self.old piece.now fault.offset self.new) }
+        ensures wrong { IfErr result
+            (λ fault. IsNewFault self.old piece.now fault.offset self.new) }
         ensures kept { OnErr result (KeepsHead self.old.header self.new.header) }
     {
         match self.header.feed(piece) {
@@ -209,14 +231,16 @@ impl CaptureReader {
         }
     }
 
-    // The same before the head of the file is whole.
+    // Takes bytes of the piece up to the end of the head of the file, which is not whole yet.
     fn feed_file_head(&mut self, piece: &[u8]) -> Result<(usize, CaptureEvent), RecordFault>
         requires sound { self.old.fault ≡ None }
         requires stage { self.old.stage ≡ stages.FileHead }
         requires small { self.old.start + length (begun self.old) + length piece.now < 2 ^ 63 }
-        ensures step { IfOk result (λ step. IsStep self.old piece.now step.0 step.1 self.new) }
+        ensures step { IfOk result
+            (λ step. IsNextReading self.old piece.now step.0 step.1 self.new) }
         ensures progress { IfOk result (λ step. 0 < length piece.now → 0 < step.0) }
-        ensures wrong { IfErr result (λ fault. IsNewFault self.old piece.now fault.offset self.new) }
+        ensures wrong { IfErr result
+            (λ fault. IsNewFault self.old piece.now fault.offset self.new) }
         ensures kept { OnErr result (KeepsHead self.old.header self.new.header) }
     {
         match take_file_head(&mut self.held, piece) {
@@ -237,7 +261,7 @@ impl CaptureReader {
         }
     }
 
-    // The same behind the head of a file of this form.
+    // Takes bytes of the piece up to the end of the next record, in a file of this form.
     fn feed_record(
         &mut self,
         form: FileForm,
@@ -246,9 +270,11 @@ impl CaptureReader {
         requires sound { self.old.fault ≡ None }
         requires stage { self.old.stage ≡ stages.Records form }
         requires small { self.old.start + length (begun self.old) + length piece.now < 2 ^ 63 }
-        ensures step { IfOk result (λ step. IsStep self.old piece.now step.0 step.1 self.new) }
+        ensures step { IfOk result
+            (λ step. IsNextReading self.old piece.now step.0 step.1 self.new) }
         ensures progress { IfOk result (λ step. 0 < length piece.now → 0 < step.0) }
-        ensures wrong { IfErr result (λ fault. IsNewFault self.old piece.now fault.offset self.new) }
+        ensures wrong { IfErr result
+            (λ fault. IsNewFault self.old piece.now fault.offset self.new) }
         ensures kept { OnErr result (KeepsHead self.old.header self.new.header) }
     {
         self.let_go();
@@ -267,7 +293,7 @@ impl CaptureReader {
         }
     }
 
-    // The same where no record is whole.
+    // Takes bytes of the piece up to the end of the next record, where no record is whole.
     fn next_record(
         &mut self,
         form: FileForm,
@@ -277,9 +303,11 @@ impl CaptureReader {
         requires stage { self.old.stage ≡ stages.Records form }
         requires idle { self.old.whole ≡ false }
         requires small { self.old.start + length (begun self.old) + length piece.now < 2 ^ 63 }
-        ensures step { IfOk result (λ step. IsStep self.old piece.now step.0 step.1 self.new) }
+        ensures step { IfOk result
+            (λ step. IsNextReading self.old piece.now step.0 step.1 self.new) }
         ensures progress { IfOk result (λ step. 0 < length piece.now → 0 < step.0) }
-        ensures wrong { IfErr result (λ fault. IsNewFault self.old piece.now fault.offset self.new) }
+        ensures wrong { IfErr result
+            (λ fault. IsNewFault self.old piece.now fault.offset self.new) }
         ensures kept { OnErr result (KeepsHead self.old.header self.new.header) }
     {
         match take_record(&mut self.held, form, piece) {

@@ -44,12 +44,13 @@ fn take_up_to(held: &mut Vec<u8>, piece: &[u8], size: usize) -> usize
     }
 }
 
-/// Takes bytes of the piece until the head of a file is whole, and judges each field as soon as it is
-/// there. `Err` has the offset of the first field that is wrong, in the head.
+/// Takes bytes of the piece until the head of a file is whole, and judges each field as soon as it
+/// is there. `Err` has the offset of the first field that is wrong, in the head.
 pub(crate) fn take_file_head(held: &mut Vec<u8>, piece: &[u8]) -> Result<FileTaken, usize>
     requires begun { IsFilePart held.old.items }
     requires room { 262160 ≤ vec_capacity held.old }
-    ensures taken { IfOk result (λ taken. IsFileTaken held.old.items piece.now taken held.new.items) }
+    ensures taken { IfOk result
+        (λ taken. IsFileTaken held.old.items piece.now taken held.new.items) }
     ensures wrong { IfErr result (λ offset. IsFileWrongAt (held.old.items ++ piece.now) offset) }
     ensures capacity { vec_capacity held.old ≤ vec_capacity held.new }
 {
@@ -61,9 +62,9 @@ pub(crate) fn take_file_head(held: &mut Vec<u8>, piece: &[u8]) -> Result<FileTak
     }
 }
 
-/// Takes bytes of the piece until a record is whole, and judges each field as soon as it is there. A
-/// record that stands in the piece alone stays there. `Err` has the offset of the first field that is
-/// wrong, in the record.
+/// Takes bytes of the piece until a record is whole, and judges each field as soon as it is there.
+/// A record that stands in the piece alone stays there. `Err` has the offset of the first field
+/// that is wrong, in the record.
 #[inline]
 pub(crate) fn take_record(
     held: &mut Vec<u8>,
@@ -72,9 +73,11 @@ pub(crate) fn take_record(
 ) -> Result<RecordTaken, usize>
     requires begun { IsRecordPart form held.old.items }
     requires room { 262160 ≤ vec_capacity held.old }
-    ensures taken { IfOk result (λ taken. IsRecordTaken form held.old.items piece.now taken held.new.items) }
+    ensures taken { IfOk result
+        (λ taken. IsRecordTaken form held.old.items piece.now taken held.new.items) }
     ensures progress { IfOk result TakesSome }
-    ensures wrong { IfErr result (λ offset. IsRecordWrongAt form (held.old.items ++ piece.now) offset) }
+    ensures wrong { IfErr result
+        (λ offset. IsRecordWrongAt form (held.old.items ++ piece.now) offset) }
     ensures capacity { vec_capacity held.old ≤ vec_capacity held.new }
 {
     if !held.as_slice().is_empty() {
@@ -86,14 +89,18 @@ pub(crate) fn take_record(
     }
 }
 
-// The same where the record doesn't stand in the piece alone, or is wrong.
+// Takes bytes of the piece until a record is whole that doesn't stand in the piece alone, or is
+// wrong, and judges each field as soon as it is there. `Err` has the offset of the first field that
+// is wrong, in the record.
 #[inline(never)]
 fn take_in_parts(held: &mut Vec<u8>, form: FileForm, piece: &[u8]) -> Result<RecordTaken, usize>
     requires begun { IsRecordPart form held.old.items }
     requires room { 262160 ≤ vec_capacity held.old }
-    ensures taken { IfOk result (λ taken. IsRecordMoved form held.old.items piece.now taken held.new.items) }
+    ensures taken { IfOk result
+        (λ taken. IsRecordMoved form held.old.items piece.now taken held.new.items) }
     ensures progress { IfOk result TakesSome }
-    ensures wrong { IfErr result (λ offset. IsRecordWrongAt form (held.old.items ++ piece.now) offset) }
+    ensures wrong { IfErr result
+        (λ offset. IsRecordWrongAt form (held.old.items ++ piece.now) offset) }
     ensures capacity { vec_capacity held.old ≤ vec_capacity held.new }
 {
     let first = take_up_to(held, piece, RECORD_HEAD);
@@ -109,7 +116,8 @@ fn take_in_parts(held: &mut Vec<u8>, form: FileForm, piece: &[u8]) -> Result<Rec
     }
 }
 
-// The same, where the part in front of the captured bytes is there.
+// Takes bytes of the piece until a record is whole whose part in front of the captured bytes is
+// there.
 fn take_captured(held: &mut Vec<u8>, form: FileForm, piece: &[u8]) -> RecordTaken
     requires begun { IsRecordBegun form held.old.items }
     requires room { 262160 ≤ vec_capacity held.old }

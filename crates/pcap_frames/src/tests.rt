@@ -7,8 +7,8 @@ use std::test::Fail;
 use test_records::{BASE, routed};
 use vrt_words::put_words;
 
-// The words of a file's head, in which the lowest byte of a number comes first, and of a record's head:
-// 150 bytes captured at 0x6553F100 seconds and five microseconds.
+// The words of a file's head, in which the lowest byte of a number comes first, and of a record's
+// head: 150 bytes captured at 0x6553F100 seconds and five microseconds.
 const FILE: [u32; 6] = [0xD4C3_B2A1, 0x0200_0400, 0, 0, 0x0000_0400, 0x0100_0000];
 
 const RECORD: [u32; 4] = [0x00F1_5365, 0x0500_0000, 0x9600_0000, 0x9600_0000];
@@ -42,7 +42,7 @@ fn capture() -> [u8; 530] {
     bytes
 }
 
-// The same with these words from an index on.
+// The capture with these words from an index on.
 fn changed(index: usize, words: &[u32]) -> [u8; 530]
     requires { index + length words.now ≤ 132 }
 {
@@ -51,7 +51,7 @@ fn changed(index: usize, words: &[u32]) -> [u8; 530]
     bytes
 }
 
-// The same with one word, if there is a place for it.
+// The capture with one word changed, if there is a place for it.
 fn with_word(index: usize, word: u32) -> [u8; 530] {
     let mut bytes = capture();
     if index < 132 {
@@ -64,8 +64,8 @@ fn bad(offset: u64) -> Result<(), RecordFault> {
     Err(RecordFault { offset })
 }
 
-// What a reader told: what was captured, record behind record, and each event with the number of bytes
-// that were taken.
+// What a reader told: what was captured, record behind record, and each event with the number of
+// bytes that were taken.
 #[derive(Drop)]
 struct Told {
     captured: Vec<u8>,
@@ -103,8 +103,8 @@ fn end_of(at: usize, first: usize, piece: usize) -> usize
     if at < first { first } else { at + piece }
 }
 
-// The sum of all times, and the verdict, where the bytes come in pieces of this size, behind a first
-// one. What is told is put behind what was.
+// The sum of all times, and the verdict, where the bytes come in pieces of this size, behind a
+// first one. What is told is put behind what was.
 fn verdict_behind(
     alloc: Global,
     bytes: &[u8],
@@ -134,7 +134,7 @@ fn verdict_behind(
     Ok((told, reader.finish()))
 }
 
-// The same in pieces of this size alone.
+// The sum of all times, and the verdict, where all pieces have this size.
 fn verdict(
     alloc: Global,
     bytes: &[u8],
@@ -361,54 +361,35 @@ fn a_fault_stays(rt: HostRuntime) -> Result<(), Fail> {
     Ok(())
 }
 
+// The form of a file: whether the highest byte comes first, and whether times are nanoseconds.
+fn form_of(big: bool, nanos: bool) -> FileForm {
+    FileForm { big, nanos }
+}
+
 #[test]
 fn a_file_is_written(rt: HostRuntime) -> Result<(), Fail> {
     let mut wanted = [7; 25];
     let mut bytes = [7; 25];
     // The lowest byte first, microseconds; then the highest, nanoseconds.
     put_words(&mut wanted, 0, &FILE);
-    encode_file_head(
-        FileForm {
-            big: false,
-            nanos: false,
-        },
-        &mut bytes,
-    );
+    encode_file_head(form_of(false, false), &mut bytes);
     assert!(rt; bytes == wanted);
     put_words(
         &mut wanted,
         0,
         &[0xA1B2_3C4D, 0x0002_0004, 0, 0, 0x0004_0000, 1],
     );
-    encode_file_head(
-        FileForm {
-            big: true,
-            nanos: true,
-        },
-        &mut bytes,
-    );
+    encode_file_head(form_of(true, true), &mut bytes);
     assert!(rt; bytes == wanted);
     put_words(&mut wanted, 0, &[0xA1B2_C3D4]);
-    encode_file_head(
-        FileForm {
-            big: true,
-            nanos: false,
-        },
-        &mut bytes,
-    );
+    encode_file_head(form_of(true, false), &mut bytes);
     assert!(rt; bytes == wanted);
     put_words(
         &mut wanted,
         0,
         &[0x4D3C_B2A1, 0x0200_0400, 0, 0, 0x0000_0400, 0x0100_0000],
     );
-    encode_file_head(
-        FileForm {
-            big: false,
-            nanos: true,
-        },
-        &mut bytes,
-    );
+    encode_file_head(form_of(false, true), &mut bytes);
     assert!(rt; bytes == wanted);
     Ok(())
 }

@@ -1,5 +1,5 @@
 ghost use Rattle.std.specs.Prelude.{◌↔◌, IsTrue, IsSome, ◌≡◌, ◌+◌, ◌<◌, ◌^◌, ℕ, List, Some, length, IfOk, IfErr, OnOk};
-ghost use Rattle.replay_form.specs.Grammar.{Grammar, Reads, IsStanding, IsStep, TakesFront, IsWrong, IsLawful, AreReads};
+ghost use Rattle.replay_form.specs.Grammar.{Grammar, Reads, IsStanding, IsIntake, TakesFront, IsWrong, IsLawful, AreReads};
 
 use replay_form::{Event, RecordFault};
 
@@ -28,17 +28,23 @@ pub trait Intake {
         requires standing { IsStanding (reads self.old) }
         requires small { (reads self.old).given + length piece.now < 2 ^ 63 }
         ensures progress { IfOk result (λ step. 0 < length piece.now → 0 < step.0) }
-        ensures front { IfOk result (λ step. TakesFront piece.now step.0 (reads self.old) (reads self.new)) }
-        ensures step { IfOk result (λ step. IsStep grammar step.1 piece.now step.0 (reads self.old) (reads self.new)) }
-        ensures wrong { IfErr result (λ fault. IsWrong grammar piece.now fault.offset (reads self.old)) };
+        ensures front { IfOk result
+            (λ step. TakesFront piece.now step.0 (reads self.old) (reads self.new)) }
+        ensures step { IfOk result
+            (λ step. IsIntake grammar step.1 piece.now step.0 (reads self.old) (reads self.new)) }
+        ensures wrong { IfErr result
+            (λ fault. IsWrong grammar piece.now fault.offset (reads self.old)) };
 
-    /// Whether the bytes given are a header and whole frames. `Err` tells their number, where they end
-    /// inside the header or a frame.
+    /// Whether the bytes given are a header and whole frames. `Err` tells their number, where they
+    /// end inside the header or a frame.
     fn finish(&self) -> Result<(), RecordFault>
-        ensures whole { OnOk result ((taken : List ℕ) (frames : List Self.Frame) → (reads self.now).stands taken frames →
-            (head : Self.Head) × ((reads self.now).head ≡ Some head) × grammar.whole head frames taken) }
-        ensures inside { IfErr result (λ fault. (taken : List ℕ) (frames : List Self.Frame) → (reads self.now).stands taken frames →
-            grammar.inside taken × (fault.offset ≡ length taken)) };
+        ensures whole { OnOk result ((taken : List ℕ) (frames : List Self.Frame)
+            → (reads self.now).stands taken frames
+            → (head : Self.Head) × ((reads self.now).head ≡ Some head)
+            × grammar.whole head frames taken) }
+        ensures inside { IfErr result (λ fault. (taken : List ℕ) (frames : List Self.Frame)
+            → (reads self.now).stands taken frames
+            → grammar.inside taken × (fault.offset ≡ length taken)) };
 
     ghost lawful: { IsLawful grammar };
 

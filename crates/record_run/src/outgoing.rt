@@ -31,9 +31,11 @@ impl Outgoing {
     #[inline]
     pub fn send_if_full<K: Sink>(&mut self, sink: &mut K)
         ensures room { length self.new.text < 65536 }
-        ensures sent { (start : Option (List ℕ)) (before : ℕ) (text : List ℕ) →
-            IsSent self.old.failed start (K.held sink.old) before (K.faults sink.old) self.old.text text →
-            IsSent self.new.failed start (K.held sink.new) before (K.faults sink.new) self.new.text text }
+        ensures sent { (start : Option (List ℕ)) (before : ℕ) (text : List ℕ)
+            → IsSent self.old.failed start (K.held sink.old) before
+            (K.faults sink.old) self.old.text text
+            → IsSent self.new.failed start (K.held sink.new) before
+            (K.faults sink.new) self.new.text text }
     {
         if self.text.is_full() {
             self.send(sink);
@@ -44,9 +46,11 @@ impl Outgoing {
     fn send<K: Sink>(&mut self, sink: &mut K)
         ensures text { self.new.text ≡ [] }
         ensures idle { self.old.text ≡ [] → sink.new ≡ sink.old }
-        ensures sent { (start : Option (List ℕ)) (before : ℕ) (text : List ℕ) →
-            IsSent self.old.failed start (K.held sink.old) before (K.faults sink.old) self.old.text text →
-            IsSent self.new.failed start (K.held sink.new) before (K.faults sink.new) self.new.text text }
+        ensures sent { (start : Option (List ℕ)) (before : ℕ) (text : List ℕ)
+            → IsSent self.old.failed start (K.held sink.old) before
+            (K.faults sink.old) self.old.text text
+            → IsSent self.new.failed start (K.held sink.new) before
+            (K.faults sink.new) self.new.text text }
     {
         if !self.failed {
             self.failed = write_all(sink, self.text.as_slice()).is_err();
@@ -60,9 +64,11 @@ impl Outgoing {
         ensures idle { self.old.text ≡ [] → sink.new ≡ sink.old }
         ensures all { OnOk result (self.new.failed ≡ false) }
         ensures cut { OnErr result (self.new.failed ≡ true) }
-        ensures sent { (start : Option (List ℕ)) (before : ℕ) (text : List ℕ) →
-            IsSent self.old.failed start (K.held sink.old) before (K.faults sink.old) self.old.text text →
-            IsSent self.new.failed start (K.held sink.new) before (K.faults sink.new) self.new.text text }
+        ensures sent { (start : Option (List ℕ)) (before : ℕ) (text : List ℕ)
+            → IsSent self.old.failed start (K.held sink.old) before
+            (K.faults sink.old) self.old.text text
+            → IsSent self.new.failed start (K.held sink.new) before
+            (K.faults sink.new) self.new.text text }
     {
         self.send(sink);
         if self.failed { Err(Failed) } else { Ok(()) }

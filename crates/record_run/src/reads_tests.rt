@@ -10,8 +10,8 @@ use std::alloc::{AllocError, Global};
 use std::sync::atomic::{AtomicU64, Ordering};
 use std::test::Fail;
 
-// A source that counts the reads of one byte in front of the first larger one, and those behind them
-// by what they ask for.
+// A source that counts the reads of one byte in front of the first larger one, and those behind
+// them by what they ask for.
 #[derive(Drop)]
 struct AskedSource {
     source: SureSource,
@@ -129,8 +129,8 @@ fn what_was_told_stands_written_before_the_next_read(rt: HostRuntime) -> Result<
     let teller = TrialTeller::new(alloc);
     let status = told(alloc, MANY, teller, &mut source, &mut sink)?;
     assert!(rt; status == Status::Done);
-    // The frames end at 468 and 596 bytes, and each has two lines of 19 bytes, of which the second is
-    // owed; the seventh read tells the end.
+    // The frames end at 468 and 596 bytes, and each has two lines of 19 bytes, of which the second
+    // is owed; the seventh read tells the end.
     assert_eq!(rt; source.reads, 7);
     assert!(rt; source.noted == [0, 0, 0, 0, 0, 19, 38, 0]);
     // The last line has 9.

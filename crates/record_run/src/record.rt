@@ -7,7 +7,8 @@ use std::marker::Model;
 
 /// A frame of a record: when the datagram came, on which port, and its bytes.
 ///
-/// The reader lends what it has of a frame, so this type serves contracts, which speak of its value.
+/// The reader lends what it has of a frame, so this type serves contracts, which speak of its
+/// value.
 #[derive(Drop)]
 pub struct ReceivedFrame {
     /// When the datagram came.

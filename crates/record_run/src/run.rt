@@ -21,9 +21,9 @@ const PIECE: usize = 1 << 16;
 /// Reads from a source piece by piece, and writes to a sink what the teller tells of each frame as
 /// soon as it is whole, and of the end.
 ///
-/// Of the bytes the first `most` are judged, and at most one more is asked for. Where the teller takes
-/// memory at the header, one byte a read is asked for until the header stands. What was told is written
-/// before the next read, and before any status.
+/// Of the bytes the first `most` are judged, and at most one more is asked for. Where the teller
+/// takes memory at the header, one byte a read is asked for until the header stands. What was told
+/// is written before the next read, and before any status.
 pub fn run_record<I: Intake, T: Teller<I>, S: Source, K: Sink>(
     alloc: Global,
     most: u64,
@@ -35,7 +35,8 @@ pub fn run_record<I: Intake, T: Teller<I>, S: Source, K: Sink>(
     requires most { most ≤ 2 ^ 62 }
     requires fresh { IsFresh (I.reads intake.old) }
     requires begun { HasBegun (T.tells teller.old) }
-    ensures outcome { IsOutcome result (record { most = most; grammar = I.grammar; tells = T.tells teller.old })
+    ensures outcome { IsOutcome result
+        (record { most = most; grammar = I.grammar; tells = T.tells teller.old })
         (record {
           left = S.left source.old;
           left_now = S.left source.new;
@@ -47,12 +48,15 @@ pub fn run_record<I: Intake, T: Teller<I>, S: Source, K: Sink>(
           writes_now = K.faults sink.new;
         }) }
     // Where no read and no write fails, the bytes decide, unless memory runs out.
-    ensures complete { ¬ Rose (S.faults source.old) (S.faults source.new) → ¬ Rose (K.faults sink.old) (K.faults sink.new) →
-        IfSome (S.left source.old) (λ bytes. (result ≡ Status.Memory) ⊎ IsVerdict I.grammar most bytes result) }
+    ensures complete { ¬ Rose (S.faults source.old) (S.faults source.new)
+        → ¬ Rose (K.faults sink.old) (K.faults sink.new)
+        → IfSome (S.left source.old) (λ bytes. (result ≡ Status.Memory)
+        ⊎ IsVerdict I.grammar most bytes result) }
 
     // Want of memory leaves the sink as it was, and the source too where the teller takes none.
     ensures memory { result ≡ Status.Memory → sink.new ≡ sink.old }
-    ensures untouched { result ≡ Status.Memory → (T.tells teller.old).wants ≡ false → source.new ≡ source.old }
+    ensures untouched { result ≡ Status.Memory → (T.tells teller.old).wants ≡ false
+        → source.new ≡ source.old }
 {
     match TextBuffer::open(alloc) {
         Ok(text) => read_record(
@@ -68,7 +72,7 @@ pub fn run_record<I: Intake, T: Teller<I>, S: Source, K: Sink>(
     }
 }
 
-// The same with a buffer in which nothing waits.
+// Runs a record as `run_record` does, with a buffer in which nothing waits.
 fn read_record<I: Intake, T: Teller<I>, S: Source, K: Sink>(
     alloc: Global,
     most: u64,
@@ -82,7 +86,8 @@ fn read_record<I: Intake, T: Teller<I>, S: Source, K: Sink>(
     requires fresh { IsFresh (I.reads intake.old) }
     requires begun { HasBegun (T.tells teller.old) }
     requires empty { out ≡ record { text = []; failed = false } }
-    ensures outcome { IsOutcome result (record { most = most; grammar = I.grammar; tells = T.tells teller.old })
+    ensures outcome { IsOutcome result
+        (record { most = most; grammar = I.grammar; tells = T.tells teller.old })
         (record {
           left = S.left source.old;
           left_now = S.left source.new;
@@ -93,7 +98,8 @@ fn read_record<I: Intake, T: Teller<I>, S: Source, K: Sink>(
           writes = K.faults sink.old;
           writes_now = K.faults sink.new;
         }) }
-    ensures memory { result ≡ Status.Memory → ((T.tells teller.old).wants ≡ true) × (sink.new ≡ sink.old) }
+    ensures memory { result ≡ Status.Memory
+        → ((T.tells teller.old).wants ≡ true) × (sink.new ≡ sink.old) }
 {
     let mut piece = [0; PIECE];
     let mut left = most;
@@ -104,7 +110,7 @@ fn read_record<I: Intake, T: Teller<I>, S: Source, K: Sink>(
             Err(Failed) => return Status::ReadFault,
         };
         if count == 0 {
-            return end(alloc, intake, teller, &mut out, sink);
+            return end(intake, teller, &mut out, sink);
         }
         let within = first_of(count, left);
         if let Err(status) = take(alloc, intake, teller, &mut out, &piece[..within], sink) {
@@ -124,8 +130,8 @@ fn asks_for_one<I: Intake, T: Teller<I>>(intake: &I, teller: &T) -> bool
     teller.wants_memory() && !intake.has_head()
 }
 
-// Gives bytes to the intake, writes what is told of the frames that they make whole, and tells why no
-// more are to come, where that is so: a write failed, a field is wrong, or memory ran out.
+// Gives bytes to the intake, writes what is told of the frames that they make whole, and tells why
+// no more are to come, where that is so: a write failed, a field is wrong, or memory ran out.
 fn take<I: Intake, T: Teller<I>, K: Sink>(
     alloc: Global,
     intake: &mut I,
@@ -138,19 +144,25 @@ fn take<I: Intake, T: Teller<I>, K: Sink>(
     requires small { (I.reads intake.old).given + length bytes.now < 2 ^ 63 }
     requires empty { out.old.text ≡ [] }
     requires sound { out.old.failed ≡ false }
-    requires one { (T.tells teller.old).wants ≡ true → (I.reads intake.old).head ≡ None → length bytes.now ≤ 1 }
+    requires one { (T.tells teller.old).wants ≡ true → (I.reads intake.old).head ≡ None
+        → length bytes.now ≤ 1 }
     ensures ready { OnOk result (IsReady (I.reads intake.new) (T.tells teller.new)) }
     ensures wants { OnOk result ((T.tells teller.new).wants ≡ (T.tells teller.old).wants) }
-    ensures given { OnOk result ((I.reads intake.new).given ≡ (I.reads intake.old).given + length bytes.now) }
+    ensures given { OnOk result ((I.reads intake.new).given
+        ≡ (I.reads intake.old).given + length bytes.now) }
     ensures stays { OnOk result (HeadStays (I.reads intake.old).head (I.reads intake.new).head) }
     ensures empty { out.new.text ≡ [] }
     ensures sound { result ≢ Err Status.WriteFault → out.new.failed ≡ false }
     ensures cut { result ≡ Err Status.WriteFault → out.new.failed ≡ true }
     ensures quiet { OnOk result ((I.reads intake.new).head ≡ None → sink.new ≡ sink.old) }
-    ensures memory { result ≡ Err Status.Memory → (sink.new ≡ sink.old) × ((I.reads intake.old).head ≡ None) × (0 < length bytes.now) }
-    ensures taken { (taken : List ℕ) (frames : List I.Frame) → (I.reads intake.old).stands taken frames →
-        IsTakenAs I.grammar result bytes.now (I.reads intake.old) (I.reads intake.new) (T.tells teller.old) (T.tells teller.new)
-        (way_of out.old (K.held sink.old) (K.faults sink.old)) (way_of out.new (K.held sink.new) (K.faults sink.new)) taken frames }
+    ensures memory { result ≡ Err Status.Memory
+        → (sink.new ≡ sink.old) × ((I.reads intake.old).head ≡ None) × (0 < length bytes.now) }
+    ensures taken { (taken : List ℕ) (frames : List I.Frame)
+        → (I.reads intake.old).stands taken frames
+        → IsTakenAs I.grammar result bytes.now (I.reads intake.old) (I.reads intake.new)
+        (T.tells teller.old) (T.tells teller.new)
+        (way_of out.old (K.held sink.old) (K.faults sink.old))
+        (way_of out.new (K.held sink.new) (K.faults sink.new)) taken frames }
 {
     match feed_all(alloc, intake, teller, out, bytes, sink) {
         Ok(()) => match out.flush(sink) {
@@ -167,7 +179,6 @@ fn take<I: Intake, T: Teller<I>, K: Sink>(
 
 // The status at the end of the bytes, behind which the rest of the text is written.
 fn end<I: Intake, T: Teller<I>, K: Sink>(
-    alloc: Global,
     intake: &I,
     teller: &mut T,
     out: &mut Outgoing,
@@ -179,14 +190,16 @@ fn end<I: Intake, T: Teller<I>, K: Sink>(
     ensures empty { out.new.text ≡ [] }
     ensures sound { result ≢ Status.WriteFault → out.new.failed ≡ false }
     ensures cut { result ≡ Status.WriteFault → out.new.failed ≡ true }
-    ensures ended { (taken : List ℕ) (frames : List I.Frame) → (I.reads intake.now).stands taken frames →
-        IsEndedAs I.grammar result (I.reads intake.now) (T.tells teller.old)
-        (way_of out.old (K.held sink.old) (K.faults sink.old)) (way_of out.new (K.held sink.new) (K.faults sink.new)) taken frames }
+    ensures ended { (taken : List ℕ) (frames : List I.Frame)
+        → (I.reads intake.now).stands taken frames
+        → IsEndedAs I.grammar result (I.reads intake.now) (T.tells teller.old)
+        (way_of out.old (K.held sink.old) (K.faults sink.old))
+        (way_of out.new (K.held sink.new) (K.faults sink.new)) taken frames }
 {
     match intake.finish() {
         Ok(()) => {
-            teller.end(alloc, &mut out.text);
-            settle(alloc, teller, out, sink);
+            teller.end(&mut out.text);
+            settle(teller, out, sink);
             match out.flush(sink) {
                 Ok(()) => Status::Done,
                 Err(Failed) => Status::WriteFault,
@@ -209,7 +222,8 @@ fn read_piece<S: Source>(
     ensures within { IfOk result (λ n. n ≤ length piece.new) }
     ensures most { IfOk result (λ n. n ≤ left + 1) }
     ensures single { IfOk result (λ n. one ≡ true → n ≤ 1) }
-    ensures bytes { IfOk result (λ n. Consumes (S.left source.old) (S.left source.new) (take n piece.new)) }
+    ensures bytes { IfOk result
+        (λ n. Consumes (S.left source.old) (S.left source.new) (take n piece.new)) }
     ensures end { IfOk result (λ n. n ≡ 0 → IsAtEnd (S.left source.new)) }
     ensures err { OnErr result (Keeps (S.left source.old) (S.left source.new)) }
     ensures cause { HasCause (S.faults source.old) (S.faults source.new) result }

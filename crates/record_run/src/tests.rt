@@ -27,7 +27,7 @@ pub(crate) fn record(alloc: Global) -> Result<Vec<u8>, AllocError> {
     Ok(bytes)
 }
 
-// The same, but that the second frame came before the first.
+// A record with two frames, of which the second came before the first.
 fn wrong_at_468(alloc: Global) -> Result<Vec<u8>, AllocError> {
     let mut bytes = datagram(alloc, &routed())?;
     push_frame(&mut bytes, datagram(alloc, &BASE)?.as_slice())?;
@@ -59,7 +59,7 @@ pub(crate) fn told<S: Source, K: Sink>(
     Ok(run_record(alloc, most, &mut intake, &mut teller, source, sink))
 }
 
-// The same from bytes in pieces, into a sink with room.
+// The status of a run that reads these bytes in pieces of this size, and its sink, which has room.
 fn ran(
     alloc: Global,
     bytes: Vec<u8>,

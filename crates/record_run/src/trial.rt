@@ -9,8 +9,8 @@ use vrt_words::NoMemory;
 
 /// Tells the number of each frame, and at the end how many there were.
 ///
-/// A frame has a second line, which is owed when the first one was put. So is the last line when the
-/// end came.
+/// A frame has a second line, which is owed when the first one was put. So is the last line when
+/// the end came.
 #[derive(Debug, Drop)]
 pub(crate) struct TrialTeller {
     /// How many frames were told of.
@@ -43,7 +43,7 @@ impl TrialTeller {
         }
     }
 
-    /// The same, and so many bytes are taken at the header.
+    /// Nothing was told so far, and so many bytes are taken at the header.
     pub fn with_room(alloc: Global, room: usize) -> Self
         ensures told { result.told ≡ 0 }
         ensures owes { result.owes ≡ false }
@@ -107,18 +107,18 @@ impl<I: Intake> Teller<I> for TrialTeller {
         Ok(())
     }
 
-    fn frame(&mut self, _alloc: Global, _intake: &I, _bytes: &[u8], out: &mut TextBuffer) {
+    fn frame(&mut self, _intake: &I, _bytes: &[u8], out: &mut TextBuffer) {
         self.told += 1;
         put_number(out, b"frame ", self.told);
         self.owes = true;
     }
 
-    fn end(&mut self, _alloc: Global, _out: &mut TextBuffer) {
+    fn end(&mut self, _out: &mut TextBuffer) {
         self.ended = true;
         self.owes = true;
     }
 
-    fn next(&mut self, _alloc: Global, out: &mut TextBuffer) -> bool {
+    fn next(&mut self, out: &mut TextBuffer) -> bool {
         self.put_owed(out)
     }
 }

@@ -5,7 +5,7 @@ use Rattle.std.proofs.lemmas.List.{length-drop}
 use Rattle.replay_form.specs.FrameFields.{Frame, IsFrameWrongAt}
 use Rattle.replay_form.specs.HeadFields.{IsHeadPart, IsHeadWrongAt}
 use Rattle.replay_form.specs.Head.{IsHead}
-use Rattle.replay_form.specs.Reading.{Reading, begun, whole_bytes, held_frame, frames_after, StandsWith, StandsFor, IsStep, IsFailed, IsNewFault}
+use Rattle.replay_form.specs.Reading.{Reading, begun, whole_bytes, held_frame, frames_after, StandsWith, StandsFor, IsNextReading, IsFailed, IsNewFault}
 use Rattle.replay_form.specs.Reading.{IsFrameRead as IsReaderFrame}
 use Rattle.replay_form.specs.Record.{IsRecordWrongAt}
 use Rattle.replay_form.specs.Verdict.{HasNoFault}
@@ -16,7 +16,7 @@ use Rattle.replay_form.specs.declared.record_head.RecordHead.{RecordHead}
 use Rattle.replay_form.proofs.RecordLaws.{cut-append, record_wrong-append}
 use Rattle.replay_form.proofs.ReadingLaws.{sound_stands, step_sound, step_lies, kept_whole, not_both}
 use Rattle.replay_form.specs.Grammar.{HasWhole, IsStanding, IsWrong, IsLawful, AreReads}
-use Rattle.replay_form.specs.Grammar.{IsStep as IsIntakeStep}
+use Rattle.replay_form.specs.Grammar.{IsIntake}
 use Rattle.replay_form.specs.RecordGrammar.{record_grammar, record_reads}
 
 known : (started : Bool) (head : RecordHead) → started ≡ true → (if started then Some head else None) ≡ Some head
@@ -76,10 +76,10 @@ datagram_within old piece count new step =
     ap (λ (r : Reading). length (drop 20 (whole_bytes r.held front))) step.after ∙ ap (λ bs. length (drop 20 bs)) (kept_whole (begun old) front) in
     omega (arith, start, held, length-drop 20 bytes, step.whole.all)
 
-pub intake_step : (old : Reading) (piece : List ℕ) (count : ℕ) (event : Event) (new : Reading) → IsStep old piece count event new
+pub intake_step : (old : Reading) (piece : List ℕ) (count : ℕ) (event : Event) (new : Reading) → IsNextReading old piece count event new
     → IsStanding (record_reads old)
     → ((taken : List ℕ) (frames : List Frame) → StandsFor old taken frames → StandsFor new (taken ++ take count piece) (frames_after event frames new (take count piece)))
-    → IsIntakeStep record_grammar event piece count (record_reads old) (record_reads new)
+    → IsIntake record_grammar event piece count (record_reads old) (record_reads new)
 intake_step old piece count events.More new step standing stands = record {
   all = step.all;
   whole = ap (λ (r : Reading). r.start) step.after;

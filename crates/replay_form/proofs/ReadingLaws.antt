@@ -8,7 +8,7 @@ use Rattle.vrt_time.specs.Time.{TimeStamp, stamp_of}
 use Rattle.replay_form.specs.Numbers.{number_at}
 use Rattle.replay_form.specs.Taking.{IsFrameFound}
 use Rattle.replay_form.proofs.FrameLaws.{whole_framed}
-use Rattle.replay_form.specs.Reading.{Reading, begun, kept_of, whole_bytes, IsFrameIn, IsBeginning, IsGoing, StandsWith, StandsFor, IsMore, IsHeadRead, IsFrameRead, IsStep, IsFailed, IsFresh, IsUnfinished, held_frame, frames_after}
+use Rattle.replay_form.specs.Reading.{Reading, begun, kept_of, whole_bytes, IsFrameIn, IsBeginning, IsGoing, StandsWith, StandsFor, IsMore, IsHeadRead, IsFrameRead, IsNextReading, IsFailed, IsFresh, IsUnfinished, held_frame, frames_after}
 use Rattle.replay_form.specs.declared.event.Event.{Event}
 use Rattle.replay_form.specs.declared.event.Event.TheVariants as events
 use Rattle.replay_form.specs.declared.event.RecordFault.{RecordFault}
@@ -132,7 +132,7 @@ frame_stands old piece count new taken frames step stands =
     (stands_sound after (taken ++ take count piece) (frames ++ frame ∷ []) step.sound (inr cases)))
 
 -- each call adds its bytes, and its frame
-pub step_stands : (old : Reading) (piece : List ℕ) (count : ℕ) (event : Event) (new : Reading) (taken : List ℕ) (frames : List Frame) → IsStep old piece count event new
+pub step_stands : (old : Reading) (piece : List ℕ) (count : ℕ) (event : Event) (new : Reading) (taken : List ℕ) (frames : List Frame) → IsNextReading old piece count event new
     → StandsFor old taken frames → StandsFor new (taken ++ take count piece) (frames_after event frames new (take count piece))
 step_stands old piece count events.More new taken frames step stands = more_stands old piece count new taken frames step stands
 step_stands old piece count events.Head new taken frames step stands = head_stands old piece count new taken frames step stands
@@ -148,7 +148,7 @@ frame_lies old piece count new step =
     (subst (λ bs. IsFrame first_stamp (record { stamp = stamp; port = number_at 12 2 bs; datagram = drop 20 bs }) bs) (sym (kept_whole (begun old) front))
     (whole_framed old.last bytes stamp step.whole refl))
 
-pub step_lies : (old : Reading) (piece : List ℕ) (count : ℕ) (event : Event) (new : Reading) → IsStep old piece count event new → new.whole ≡ true
+pub step_lies : (old : Reading) (piece : List ℕ) (count : ℕ) (event : Event) (new : Reading) → IsNextReading old piece count event new → new.whole ≡ true
     → IsFrameIn new (take count piece)
 step_lies old piece count events.More new step whole = not_both new.whole whole (ap (λ (r : Reading). r.whole) step.after)
 step_lies old piece count events.Head new step whole = not_both new.whole whole (ap (λ (r : Reading). r.whole) step.after)
@@ -213,13 +213,13 @@ pub stands_size : (reading : Reading) (taken : List ℕ) (frames : List Frame) �
 stands_size reading taken frames sound stands = elim (sound_stands reading taken frames sound stands) [ inl b ↦ b.start | inr g ↦ g.start ]
 
 -- a call that gives an event leaves no fault
-pub step_sound : (old : Reading) (piece : List ℕ) (count : ℕ) (event : Event) (new : Reading) → IsStep old piece count event new → new.fault ≡ None
+pub step_sound : (old : Reading) (piece : List ℕ) (count : ℕ) (event : Event) (new : Reading) → IsNextReading old piece count event new → new.fault ≡ None
 step_sound old piece count events.More new step = ap (λ (r : Reading). r.fault) step.after ∙ step.sound
 step_sound old piece count events.Head new step = ap (λ (r : Reading). r.fault) step.after
 step_sound old piece count events.Frame new step = ap (λ (r : Reading). r.fault) step.after ∙ step.sound
 
 -- and takes no more bytes than there are
-pub step_few : (old : Reading) (piece : List ℕ) (count : ℕ) (event : Event) (new : Reading) → IsStep old piece count event new → count ≤ length piece
+pub step_few : (old : Reading) (piece : List ℕ) (count : ℕ) (event : Event) (new : Reading) → IsNextReading old piece count event new → count ≤ length piece
 step_few old piece count events.More new step = (let e = step.all in omega arith)
 step_few old piece count events.Head new step = step.few
 step_few old piece count events.Frame new step = step.few

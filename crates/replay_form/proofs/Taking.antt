@@ -3,7 +3,7 @@ use Rattle.std.proofs.Common.{◌≡◌, ℕ, zero, suc, ◌+◌, ◌*◌, ◌<�
 use Rattle.std.proofs.lemmas.Bool.{cases_order}
 use Rattle.std.proofs.lemmas.List.{length-drop}
 use Rattle.replay_form.specs.Numbers.{number_at}
-use Rattle.replay_form.specs.HeadFields.{AreRight, IsHeadOpen, IsJudged, IsWholeHead, IsHeadWrongAt, is_second, field_count, head_size, route_size, most_routes}
+use Rattle.replay_form.specs.HeadFields.{AreRight, IsHeadOpen, AreJudged, IsWholeHead, IsHeadWrongAt, is_second, field_count, head_size, route_size, most_routes}
 use Rattle.replay_form.proofs.HeadLaws.{head_ranges, field_ends, last_ends}
 use Rattle.replay_form.proofs.PrefixLaws.{right-append, among-append, wrong-append, size-append, count-append}
 use Rattle.replay_form.specs.Taking.{IsHeadBegun, IsPartTaken, IsHeadWhole}
@@ -15,7 +15,7 @@ open_short bytes judged open_ =
     omega (arith, open_.missing, e)
 
 -- what is judged and short is open, and what is judged and long is whole
-pub judged_open : (bytes : List ℕ) (judged : ℕ) → IsJudged bytes judged (field_count bytes) → length bytes < head_size bytes → IsHeadOpen bytes judged
+pub judged_open : (bytes : List ℕ) (judged : ℕ) → AreJudged bytes judged (field_count bytes) → length bytes < head_size bytes → IsHeadOpen bytes judged
 judged_open bytes judged j h =
     elim (cases_order judged (field_count bytes)) [
       | inl e ↦ absurd (let long = last_ends bytes (subst (AreRight bytes) e j.right) in omega arith)
@@ -23,7 +23,7 @@ judged_open bytes judged j h =
       | inr (inr more) ↦ absurd (omega (arith, j.within))
     ]
 
-pub judged_whole : (bytes : List ℕ) (judged : ℕ) → IsJudged bytes judged (field_count bytes) → length bytes ≡ head_size bytes → IsWholeHead bytes
+pub judged_whole : (bytes : List ℕ) (judged : ℕ) → AreJudged bytes judged (field_count bytes) → length bytes ≡ head_size bytes → IsWholeHead bytes
 judged_whole bytes judged j h =
     elim (cases_order judged (field_count bytes)) [
       | inl e ↦ record { all = h; right = subst (AreRight bytes) e j.right }
@@ -31,13 +31,13 @@ judged_whole bytes judged j h =
       | inr (inr more) ↦ absurd (omega (arith, j.within))
     ]
 
-fixed_short : (bytes : List ℕ) (judged : ℕ) → IsJudged bytes judged (field_count bytes) → judged < 58 → length bytes < 332
+fixed_short : (bytes : List ℕ) (judged : ℕ) → AreJudged bytes judged (field_count bytes) → judged < 58 → length bytes < 332
 fixed_short bytes judged j h =
     let e = field_ends (is_second bytes) judged 0 (omega arith) in
     omega (arith, j.missing (omega arith), e)
 
 -- where the part in front of the routes is there, it is judged
-pub judged_fixed : (bytes : List ℕ) (judged : ℕ) → IsJudged bytes judged (field_count bytes) → 332 ≤ length bytes → 58 ≤ judged
+pub judged_fixed : (bytes : List ℕ) (judged : ℕ) → AreJudged bytes judged (field_count bytes) → 332 ≤ length bytes → 58 ≤ judged
 judged_fixed bytes judged j h =
     elim (cases_order judged 58) [
       | inl e ↦ omega arith
@@ -50,7 +50,7 @@ size_most true n h = omega arith
 size_most false n h = omega arith
 
 -- a header has 256 routes at most
-pub few_routes : (bytes : List ℕ) (judged : ℕ) → IsJudged bytes judged (field_count bytes) → 332 ≤ length bytes → head_size bytes ≤ 4428
+pub few_routes : (bytes : List ℕ) (judged : ℕ) → AreJudged bytes judged (field_count bytes) → 332 ≤ length bytes → head_size bytes ≤ 4428
 few_routes bytes judged j h =
     let ranges = head_ranges bytes judged (judged_fixed bytes judged j h) j.right in
     size_most (is_second bytes) (number_at 36 4 bytes) ranges.routes.most
@@ -89,7 +89,7 @@ begun_resumes old more new judged e begun =
 
 -- the first part is there
 pub begins : (old piece new : List ℕ) (n before judged : ℕ) → new ≡ old ++ take n piece → IsHeadOpen old before → (length old ≤ 332 → length new ≤ 332)
-    → (332 ≤ length old → n ≡ 0) → 332 ≤ length new → IsJudged new judged (field_count new) → IsHeadBegun new judged
+    → (332 ≤ length old → n ≡ 0) → 332 ≤ length new → AreJudged new judged (field_count new) → IsHeadBegun new judged
 begins old piece new n before judged e open_ short none there fields = record {
   there = there;
   within = elim (cases_order (length old) 332) [

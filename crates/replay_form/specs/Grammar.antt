@@ -67,10 +67,10 @@ pub record IsFrameRead {H F : Type 0} (grammar : Grammar H F) (piece : List ℕ)
   pub whole : old.whole + grammar.size is < new.whole
   pub stands : (taken : List ℕ) (frames : List F) → old.stands taken frames → new.stands (taken ++ take count piece) (frames ++ is ∷ [])
 
-abbrev pub IsStep : {H F : Type 0} → Grammar H F → Event → List ℕ → ℕ → Reads H F → Reads H F → Type 0
-IsStep grammar events.More piece count old new = IsMore piece count old new
-IsStep grammar events.Head piece count old new = IsHeadRead grammar piece count old new
-IsStep grammar events.Frame piece count old new = IsFrameRead grammar piece count old new
+abbrev pub IsIntake : {H F : Type 0} → Grammar H F → Event → List ℕ → ℕ → Reads H F → Reads H F → Type 0
+IsIntake grammar events.More piece count old new = IsMore piece count old new
+IsIntake grammar events.Head piece count old new = IsHeadRead grammar piece count old new
+IsIntake grammar events.Frame piece count old new = IsFrameRead grammar piece count old new
 
 -- so many of the bytes were taken, and no more than there are
 pub record TakesFront {H F : Type 0} (piece : List ℕ) (count : ℕ) (old new : Reads H F) : Type 0 where

@@ -202,7 +202,7 @@ abbrev pub AreRight : List ℕ → ℕ → Type 0
 AreRight bytes k = (i : ℕ) → i < k → IsGood (is_second bytes) (field_at (is_second bytes) i) bytes
 
 -- of the first fields so many are there and right, and the next one is not all there
-pub record IsJudged (bytes : List ℕ) (judged fields : ℕ) : Type 0 where
+pub record AreJudged (bytes : List ℕ) (judged fields : ℕ) : Type 0 where
   pub within : judged ≤ fields
   pub right : AreRight bytes judged
   pub missing : judged < fields → length bytes < end_of (is_second bytes) (field_at (is_second bytes) judged)

@@ -108,10 +108,10 @@ pub record IsFrameRead (old : Reading) (piece : List ℕ) (count : ℕ) (new : R
     held = kept_of (begun old) (take count piece);
   }
 
-abbrev pub IsStep : Reading → List ℕ → ℕ → Event → Reading → Type 0
-IsStep old piece count events.More new = IsMore old piece count new
-IsStep old piece count events.Head new = IsHeadRead old piece count new
-IsStep old piece count events.Frame new = IsFrameRead old piece count new
+abbrev pub IsNextReading : Reading → List ℕ → ℕ → Event → Reading → Type 0
+IsNextReading old piece count events.More new = IsMore old piece count new
+IsNextReading old piece count events.Head new = IsHeadRead old piece count new
+IsNextReading old piece count events.Frame new = IsFrameRead old piece count new
 
 -- A fault stays. A new one is at the first field that is wrong.
 pub record IsNewFault (old : Reading) (piece : List ℕ) (offset : ℕ) (new : Reading) : Type 0 where
@@ -146,7 +146,7 @@ abbrev pub IsUnfinished : Option RecordFault → Reading → ℕ → Type 0
 IsUnfinished (Some fault) reading offset = offset ≡ fault.offset
 IsUnfinished None reading offset = (offset ≡ reading.start + length (begun reading)) × ((reading.started ≡ false) ⊎ (0 < length (begun reading)))
 
-pub record IsFinished (reading : Reading) : Type 0 where
+pub record IsAtEnd (reading : Reading) : Type 0 where
   pub sound : reading.fault ≡ None
   pub started : reading.started ≡ true
   pub nothing : begun reading ≡ []

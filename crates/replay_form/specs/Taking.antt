@@ -1,7 +1,7 @@
 -- What a piece makes of a header or a frame that has begun.
 use Rattle.std.specs.Prelude.{◌≡◌, ℕ, ◌<◌, ◌≤◌, List, ◌++◌, length, take}
 use Rattle.vrt_time.specs.Time.{TimeStamp}
-use Rattle.replay_form.specs.HeadFields.{IsHeadOpen, IsJudged, IsWholeHead, field_count, head_size}
+use Rattle.replay_form.specs.HeadFields.{IsHeadOpen, AreJudged, IsWholeHead, field_count, head_size}
 use Rattle.replay_form.specs.FrameFields.{IsFramePart, IsWholeFrame, AreFrameRight, frame_size}
 use Rattle.replay_form.specs.Reading.{kept_of}
 use Rattle.replay_form.specs.declared.take.HeadTaken.{HeadTaken}
@@ -13,7 +13,7 @@ use Rattle.replay_form.specs.declared.take.FrameTaken.TheVariants as frames
 pub record IsHeadBegun (bytes : List ℕ) (judged : ℕ) : Type 0 where
   pub there : 332 ≤ length bytes
   pub within : length bytes ≤ head_size bytes
-  pub fields : IsJudged bytes judged (field_count bytes)
+  pub fields : AreJudged bytes judged (field_count bytes)
 
 -- all of the piece was taken and the header goes on, or a part and it is whole
 pub record IsPartTaken (old piece new : List ℕ) (judged : ℕ) : Type 0 where

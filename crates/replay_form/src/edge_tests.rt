@@ -367,8 +367,8 @@ fn streams_rise(rt: HostRuntime) -> Result<(), Fail> {
     Ok(())
 }
 
-// The offset at which a record of two frames without a byte is wrong, of which these are the words in
-// front of the second one's length.
+// The offset at which a record of two frames without a byte is wrong, of which these are the words
+// in front of the second one's length.
 fn frame_fault(alloc: Global, words: &[u32; 5]) -> Result<Option<u64>, NoMemory> {
     let mut bytes = [0; 372];
     put_words(&mut bytes, 0, &HEADER);

@@ -81,7 +81,8 @@ pub(crate) fn whole_frame(last: Stamp, bytes: &[u8]) -> Option<usize>
     ensures few { IfSome result (λ size. size ≤ length bytes.now) }
     ensures most { IfSome result (λ size. size ≤ 65555) }
     ensures whole { IfSome result (λ size. IsWholeFrame last (take size bytes.now)) }
-    ensures none { IfNone result ((n : ℕ) → n ≤ length bytes.now → ¬ IsWholeFrame last (take n bytes.now)) }
+    ensures none { IfNone result ((n : ℕ) → n ≤ length bytes.now
+        → ¬ IsWholeFrame last (take n bytes.now)) }
 {
     if bytes.len() < FRAME_HEAD {
         return None;

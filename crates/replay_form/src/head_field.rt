@@ -35,8 +35,63 @@ pub(crate) enum HeadField {
 /// The fields in front of the routes.
 pub(crate) const FIXED_FIELDS: usize = 58;
 
+// Where the fields begin, in the order of layout: each where the one before it ends. A header has
+// eight bytes that name its form, nine numbers of four bytes, 16 bytes of an identity, the 19 words
+// of the initial fields, seven bounds of four fields each, and the routes.
+
+pub(crate) const MAGIC: usize = 0;
+
+pub(crate) const CID: usize = MAGIC + 8;
+
+pub(crate) const TSI: usize = CID + 4;
+
+pub(crate) const MAX_WORDS: usize = TSI + 4;
+
+pub(crate) const DATA_WINDOW: usize = MAX_WORDS + 4;
+
+pub(crate) const CONTEXT_WINDOW: usize = DATA_WINDOW + 4;
+
+pub(crate) const KEPT: usize = CONTEXT_WINDOW + 4;
+
+pub(crate) const PENDING: usize = KEPT + 4;
+
+pub(crate) const ROUTES: usize = PENDING + 4;
+
+pub(crate) const IDENTITY_FORM: usize = ROUTES + 4;
+
+pub(crate) const IDENTITY: usize = IDENTITY_FORM + 4;
+
+pub(crate) const INITIAL: usize = IDENTITY + 16;
+
+const BOUNDS: usize = INITIAL + 19 * 4;
+
 /// The bytes in front of the routes.
-pub(crate) const FIXED_SIZE: usize = 332;
+pub(crate) const FIXED_SIZE: usize = BOUNDS + 7 * SIZE_OF_BOUND;
+
+// Where the fields of a bounds entry begin in it: the flag, a step, and the least and the greatest
+// value.
+
+const FLAG: usize = 0;
+
+pub(crate) const STEP: usize = FLAG + 4;
+
+pub(crate) const LEAST: usize = STEP + 8;
+
+pub(crate) const GREATEST: usize = LEAST + 8;
+
+const SIZE_OF_BOUND: usize = GREATEST + 8;
+
+/// Where the number of ports stands in a route of form 2, behind the stream ID. In form 1 the port
+/// stands there.
+pub(crate) const NUMBER: usize = 4;
+
+/// Where an entry of the bounds begins.
+pub(crate) fn start_of_bound(bound: usize) -> usize
+    requires { bound < 2 ^ 32 }
+    ensures { result ≡ 136 + 28 * bound }
+{
+    BOUNDS + SIZE_OF_BOUND * bound
+}
 
 /// The bytes of a route, by the form.
 pub(crate) fn size_of_route(second: bool) -> usize
@@ -63,7 +118,7 @@ pub(crate) fn start_of_route(second: bool, route: u32) -> usize
 pub(crate) fn start_of_port(second: bool, route: u32, place: u32) -> usize
     ensures { result ≡ port_at second route place }
 {
-    let first = if second { 6 } else { 4 };
+    let first = if second { NUMBER + 2 } else { NUMBER };
     start_of_route(second, route) + first + 2 * place as usize
 }
 
@@ -126,24 +181,24 @@ impl HeadField {
         ensures { result ≡ offset_of second self }
     {
         match self {
-            HeadField::Magic => 0,
-            HeadField::Cid => 8,
-            HeadField::Tsi => 12,
-            HeadField::MaxWords => 16,
-            HeadField::DataWindow => 20,
-            HeadField::ContextWindow => 24,
-            HeadField::Kept => 28,
-            HeadField::Pending => 32,
-            HeadField::Routes => 36,
-            HeadField::IdentityForm => 40,
-            HeadField::Identity => 44,
-            HeadField::Initial(word) => 60 + 4 * word as usize,
-            HeadField::Flag(bound) => 136 + 28 * bound as usize,
-            HeadField::Step(bound) => 140 + 28 * bound as usize,
-            HeadField::Least(bound) => 148 + 28 * bound as usize,
-            HeadField::Greatest(bound) => 156 + 28 * bound as usize,
+            HeadField::Magic => MAGIC,
+            HeadField::Cid => CID,
+            HeadField::Tsi => TSI,
+            HeadField::MaxWords => MAX_WORDS,
+            HeadField::DataWindow => DATA_WINDOW,
+            HeadField::ContextWindow => CONTEXT_WINDOW,
+            HeadField::Kept => KEPT,
+            HeadField::Pending => PENDING,
+            HeadField::Routes => ROUTES,
+            HeadField::IdentityForm => IDENTITY_FORM,
+            HeadField::Identity => IDENTITY,
+            HeadField::Initial(word) => INITIAL + 4 * word as usize,
+            HeadField::Flag(bound) => start_of_bound(bound as usize),
+            HeadField::Step(bound) => start_of_bound(bound as usize) + STEP,
+            HeadField::Least(bound) => start_of_bound(bound as usize) + LEAST,
+            HeadField::Greatest(bound) => start_of_bound(bound as usize) + GREATEST,
             HeadField::Stream(route) => start_of_route(second, route),
-            HeadField::Number(route) => start_of_route(second, route) + 4,
+            HeadField::Number(route) => start_of_route(second, route) + NUMBER,
             HeadField::Port(route, place) => start_of_port(second, route, place),
             HeadField::Zero(route) => start_of_route(second, route) + if second { 14 } else { 6 },
         }

@@ -2,7 +2,11 @@ ghost use Rattle.std.specs.Prelude.{◌≡◌, ◌+◌, ◌*◌, ◌<◌, ◌≤
 ghost use Rattle.replay_form.specs.HeadFields.{IsRightIn, IsHalf, IsRouteCount, IsIdentityField, IsInitialWord, IsStep, IsLeast, IsGreatest, IsPort, end_of, first_magic, second_magic, most_pending, most_routes, route_at, port_at};
 ghost use Rattle.replay_form.specs.Numbers.{number_at, signed_at};
 
-use crate::head_field::{HeadField, start_of_port, start_of_route};
+use crate::head_field::{
+    CID, CONTEXT_WINDOW, DATA_WINDOW, GREATEST, HeadField, IDENTITY, IDENTITY_FORM, INITIAL, KEPT,
+    LEAST, MAGIC, MAX_WORDS, NUMBER, PENDING, ROUTES, STEP, TSI, start_of_bound, start_of_port,
+    start_of_route,
+};
 use crate::numbers::{i64_at, u16_at, u32_at, u64_at};
 use vrt_fields::{FORMAT_WORD, PayloadFormat, RATE_WORD};
 
@@ -24,19 +28,19 @@ pub(crate) fn is_right(second: bool, field: HeadField, front: &[u8]) -> bool
     ensures { IsTrue result ↔ IsRightIn second field front.now }
 {
     match field {
-        HeadField::Magic => [FIRST_MAGIC, SECOND_MAGIC].contains(&u64_at(front, 0)),
-        HeadField::Cid => u32_at(front, 8) < 1 << 24,
-        HeadField::Tsi => (1..=3).contains(&u32_at(front, 12)),
-        HeadField::MaxWords => (43..=16_376).contains(&u32_at(front, 16)),
-        HeadField::DataWindow => u32_at(front, 20) <= 4_096,
-        HeadField::ContextWindow => u32_at(front, 24) <= 4_096,
-        HeadField::Kept => (2..=4_096).contains(&u32_at(front, 28)),
-        HeadField::Pending => is_pending(second, u32_at(front, 32)),
+        HeadField::Magic => [FIRST_MAGIC, SECOND_MAGIC].contains(&u64_at(front, MAGIC)),
+        HeadField::Cid => u32_at(front, CID) < 1 << 24,
+        HeadField::Tsi => (1..=3).contains(&u32_at(front, TSI)),
+        HeadField::MaxWords => (43..=16_376).contains(&u32_at(front, MAX_WORDS)),
+        HeadField::DataWindow => u32_at(front, DATA_WINDOW) <= 4_096,
+        HeadField::ContextWindow => u32_at(front, CONTEXT_WINDOW) <= 4_096,
+        HeadField::Kept => (2..=4_096).contains(&u32_at(front, KEPT)),
+        HeadField::Pending => is_pending(second, u32_at(front, PENDING)),
         HeadField::Routes => is_route_count(second, front),
-        HeadField::IdentityForm => u32_at(front, 40) <= 2,
+        HeadField::IdentityForm => u32_at(front, IDENTITY_FORM) <= 2,
         HeadField::Identity => is_identity(front),
         HeadField::Initial(word) => is_initial(word, front),
-        HeadField::Flag(bound) => u32_at(front, 136 + 28 * bound as usize) <= 1,
+        HeadField::Flag(bound) => u32_at(front, start_of_bound(bound as usize)) <= 1,
         HeadField::Step(bound) => is_step(bound, front),
         HeadField::Least(bound) => is_least(bound, front),
         HeadField::Greatest(bound) => is_greatest(bound, front),
@@ -58,14 +62,15 @@ fn is_pending(second: bool, pending: u32) -> bool
 // Whether there may be so many routes, whose buffers have at most 2^30 bytes.
 fn is_route_count(second: bool, front: &[u8]) -> bool
     requires { 40 ≤ length front.now }
-    ensures { IsTrue result ↔ IsRouteCount second (number_at 16 4 front.now) (number_at 20 4 front.now)
+    ensures { IsTrue result
+        ↔ IsRouteCount second (number_at 16 4 front.now) (number_at 20 4 front.now)
         (number_at 32 4 front.now) (number_at 36 4 front.now) }
 {
     let most = if second { 256 } else { 64 };
-    let max_words = u128::from(u32_at(front, 16));
-    let data_window = u128::from(u32_at(front, 20));
-    let pending = u128::from(u32_at(front, 32));
-    let routes = u128::from(u32_at(front, 36));
+    let max_words = u128::from(u32_at(front, MAX_WORDS));
+    let data_window = u128::from(u32_at(front, DATA_WINDOW));
+    let pending = u128::from(u32_at(front, PENDING));
+    let routes = u128::from(u32_at(front, ROUTES));
     routes <= most && routes * (data_window + 1 + pending) * (4 * max_words) <= 1 << 30
 }
 
@@ -75,9 +80,11 @@ fn is_identity(front: &[u8]) -> bool
     ensures { IsTrue result ↔ IsIdentityField (number_at 40 4 front.now) (number_at 44 4 front.now)
         (number_at 48 4 front.now) (number_at 52 4 front.now) (number_at 56 4 front.now) }
 {
-    let form = u32_at(front, 40);
-    let word = u32_at(front, 44);
-    let behind = u32_at(front, 48) == 0 && u32_at(front, 52) == 0 && u32_at(front, 56) == 0;
+    let form = u32_at(front, IDENTITY_FORM);
+    let word = u32_at(front, IDENTITY);
+    let behind = u32_at(front, IDENTITY + 4) == 0
+        && u32_at(front, IDENTITY + 8) == 0
+        && u32_at(front, IDENTITY + 12) == 0;
     (form != 0 || word == 0) && (form > 1 || behind)
 }
 
@@ -87,11 +94,12 @@ fn is_initial(word: u32, front: &[u8]) -> bool
     ensures { IsTrue result ↔ IsInitialWord word (number_at (56 + 4 * word) 4 front.now)
         (number_at (60 + 4 * word) 4 front.now) }
 {
-    let offset = 60 + 4 * word as usize;
+    let offset = INITIAL + 4 * word as usize;
     is_initial_word(word, u32_at(front, offset - 4), u32_at(front, offset))
 }
 
-// The same of the word and the one in front of it.
+// Whether a word of the initial fields, with the one in front of it, is one that a context may
+// have.
 fn is_initial_word(place: u32, before: u32, word: u32) -> bool
     ensures { IsTrue result ↔ IsInitialWord place before word }
 {
@@ -107,10 +115,12 @@ fn is_initial_word(place: u32, before: u32, word: u32) -> bool
 // Whether the step of a bounds entry is right.
 fn is_step(bound: u32, front: &[u8]) -> bool
     requires { 148 + 28 * bound ≤ length front.now }
-    ensures { IsTrue result ↔ IsStep (number_at (136 + 28 * bound) 4 front.now) (number_at (140 + 28 * bound) 8 front.now) }
+    ensures { IsTrue result
+        ↔ IsStep (number_at (136 + 28 * bound) 4 front.now)
+        (number_at (140 + 28 * bound) 8 front.now) }
 {
-    let offset = 136 + 28 * bound as usize;
-    let step = u64_at(front, offset + 4);
+    let offset = start_of_bound(bound as usize);
+    let step = u64_at(front, offset + STEP);
     match u32_at(front, offset) {
         0 => step == 0,
         1 => 1 <= step && step < 1 << 63,
@@ -131,9 +141,9 @@ fn is_least(bound: u32, front: &[u8]) -> bool
     ensures { IsTrue result ↔ IsLeast bound (number_at (136 + 28 * bound) 4 front.now)
         (number_at (140 + 28 * bound) 8 front.now) (signed_at (148 + 28 * bound) front.now) }
 {
-    let offset = 136 + 28 * bound as usize;
-    let step = u64_at(front, offset + 4);
-    let least = i64_at(front, offset + 12);
+    let offset = start_of_bound(bound as usize);
+    let step = u64_at(front, offset + STEP);
+    let least = i64_at(front, offset + LEAST);
     match u32_at(front, offset) {
         0 => least == 0,
         1 => {
@@ -150,7 +160,7 @@ fn is_in_half(bound: u32, front: &[u8]) -> bool
     requires { 164 + 28 * bound ≤ length front.now }
     ensures { IsTrue result ↔ (IsHalf bound → signed_at (156 + 28 * bound) front.now ≤ℤ pos 32767) }
 {
-    !is_half(bound) || i64_at(front, 156 + 28 * bound as usize) <= 32_767
+    !is_half(bound) || i64_at(front, start_of_bound(bound as usize) + GREATEST) <= 32_767
 }
 
 // Whether the greatest value of a bounds entry is not below the least one.
@@ -159,19 +169,20 @@ fn is_range(bound: u32, front: &[u8]) -> bool
     ensures { IsTrue result
         ↔ (signed_at (148 + 28 * bound) front.now ≤ℤ signed_at (156 + 28 * bound) front.now) }
 {
-    let offset = 148 + 28 * bound as usize;
-    i64_at(front, offset) <= i64_at(front, offset + 8)
+    let offset = start_of_bound(bound as usize);
+    i64_at(front, offset + LEAST) <= i64_at(front, offset + GREATEST)
 }
 
 // Whether the greatest value of a bounds entry is right.
 fn is_greatest(bound: u32, front: &[u8]) -> bool
     requires { 164 + 28 * bound ≤ length front.now }
     ensures { IsTrue result ↔ IsGreatest bound (number_at (136 + 28 * bound) 4 front.now)
-        (number_at (140 + 28 * bound) 8 front.now) (signed_at (148 + 28 * bound) front.now) (signed_at (156 + 28 * bound) front.now) }
+        (number_at (140 + 28 * bound) 8 front.now) (signed_at (148 + 28 * bound) front.now)
+        (signed_at (156 + 28 * bound) front.now) }
 {
-    let offset = 136 + 28 * bound as usize;
-    let step = u64_at(front, offset + 4);
-    let greatest = i64_at(front, offset + 20);
+    let offset = start_of_bound(bound as usize);
+    let step = u64_at(front, offset + STEP);
+    let greatest = i64_at(front, offset + GREATEST);
     match u32_at(front, offset) {
         0 => greatest == 0,
         1 => {
@@ -200,7 +211,7 @@ fn is_number(second: bool, route: u32, front: &[u8]) -> bool
     requires { route_at second route + 6 ≤ length front.now }
     ensures { IsTrue result ↔ IsRightIn second (HeadField.Number route) front.now }
 {
-    (1..=4).contains(&u16_at(front, start_of_route(second, route) + 4))
+    (1..=4).contains(&u16_at(front, start_of_route(second, route) + NUMBER))
 }
 
 // Whether a port of a route is another than those in front of it, or 0 behind them.
@@ -212,7 +223,7 @@ fn is_port(second: bool, route: u32, place: u32, front: &[u8]) -> bool
         return true;
     }
     let port = u16_at(front, start_of_port(true, route, place));
-    if u32::from(u16_at(front, start_of_route(true, route) + 4)) <= place {
+    if u32::from(u16_at(front, start_of_route(true, route) + NUMBER)) <= place {
         return port == 0;
     }
     for earlier in 0..place {
@@ -228,6 +239,5 @@ fn is_zero(second: bool, route: u32, front: &[u8]) -> bool
     requires { end_of second (HeadField.Zero route) ≤ length front.now }
     ensures { IsTrue result ↔ IsRightIn second (HeadField.Zero route) front.now }
 {
-    let behind = if second { 14 } else { 6 };
-    u16_at(front, start_of_route(second, route) + behind) == 0
+    u16_at(front, HeadField::Zero(route).offset(second)) == 0
 }

@@ -19,7 +19,7 @@ pub fn migrate_head(alloc: Global, head: &RecordHead) -> Result<RecordHead, NoMe
     Ok(migrate_head_into(head, routes))
 }
 
-/// The same, with its routes in this room. It takes no memory.
+/// The same header in form 2, with its routes in this room. It takes no memory.
 pub fn migrate_head_into(head: &RecordHead, mut room: Vec<Route>) -> RecordHead
     requires empty { room.items ≡ [] }
     requires fits { length head.now.routes ≤ vec_capacity room }

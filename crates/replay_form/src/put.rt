@@ -11,7 +11,8 @@ use byteorder::{BigEndian, ByteOrder};
 pub(crate) fn put_u16(into: &mut [u8], offset: usize, number: u16) -> usize
     requires { offset + 2 ≤ length into.old }
     ensures behind { result ≡ offset + 2 }
-    ensures agrees { (bytes : List ℕ) → AreBytes bytes → offset + 2 ≤ length bytes → take offset into.old ≡ take offset bytes
+    ensures agrees { (bytes : List ℕ) → AreBytes bytes → offset + 2 ≤ length bytes
+        → take offset into.old ≡ take offset bytes
         → number ≡ number_at offset 2 bytes → take (offset + 2) into.new ≡ take (offset + 2) bytes }
     ensures stays { (n : ℕ) → offset + 2 ≤ n → drop n into.new ≡ drop n into.old }
 {
@@ -22,7 +23,8 @@ pub(crate) fn put_u16(into: &mut [u8], offset: usize, number: u16) -> usize
 pub(crate) fn put_u32(into: &mut [u8], offset: usize, number: u32) -> usize
     requires { offset + 4 ≤ length into.old }
     ensures behind { result ≡ offset + 4 }
-    ensures agrees { (bytes : List ℕ) → AreBytes bytes → offset + 4 ≤ length bytes → take offset into.old ≡ take offset bytes
+    ensures agrees { (bytes : List ℕ) → AreBytes bytes → offset + 4 ≤ length bytes
+        → take offset into.old ≡ take offset bytes
         → number ≡ number_at offset 4 bytes → take (offset + 4) into.new ≡ take (offset + 4) bytes }
     ensures stays { (n : ℕ) → offset + 4 ≤ n → drop n into.new ≡ drop n into.old }
 {
@@ -33,7 +35,8 @@ pub(crate) fn put_u32(into: &mut [u8], offset: usize, number: u32) -> usize
 pub(crate) fn put_u64(into: &mut [u8], offset: usize, number: u64) -> usize
     requires { offset + 8 ≤ length into.old }
     ensures behind { result ≡ offset + 8 }
-    ensures agrees { (bytes : List ℕ) → AreBytes bytes → offset + 8 ≤ length bytes → take offset into.old ≡ take offset bytes
+    ensures agrees { (bytes : List ℕ) → AreBytes bytes → offset + 8 ≤ length bytes
+        → take offset into.old ≡ take offset bytes
         → number ≡ number_at offset 8 bytes → take (offset + 8) into.new ≡ take (offset + 8) bytes }
     ensures stays { (n : ℕ) → offset + 8 ≤ n → drop n into.new ≡ drop n into.old }
 {

@@ -3,14 +3,14 @@ ghost use Rattle.replay_form.specs.Head.{IsSpelledHead};
 ghost use Rattle.replay_form.specs.HeadValues.{AreHeadValues};
 ghost use Rattle.replay_form.specs.FrameFields.{Frame, IsFrame, IsWholeFrame};
 ghost use Rattle.replay_form.specs.Numbers.{number_at};
-ghost use Rattle.replay_form.specs.Reading.{StandsFor, IsFresh, IsStep, IsFailed, IsNewFault, IsFinished, IsUnfinished, IsFrameIn, KeepsHead, begun, frames_after, held_frame, whole_bytes};
+ghost use Rattle.replay_form.specs.Reading.{StandsFor, IsFresh, IsNextReading, IsFailed, IsNewFault, IsAtEnd, IsUnfinished, IsFrameIn, KeepsHead, begun, frames_after, held_frame, whole_bytes};
 ghost use Rattle.replay_form.specs.Record.{IsRecord, IsRecordWrongAt, EndsInside, first_stamp};
 ghost use Rattle.vrt_time.specs.Time.{TimeStamp, stamp_of};
 
 use crate::event::{Event, RecordFault};
 use crate::frame_field::FRAME_HEAD;
+use crate::head_reading::read_head;
 use crate::numbers::{u16_at, u32_at, u64_at};
-use crate::read_head::read_head;
 use crate::record_head::RecordHead;
 use crate::route_list::RouteList;
 use crate::take::{FrameTaken, HeadTaken, MOST_HELD, take_frame, take_head};
@@ -27,7 +27,8 @@ use vrt_words::NoMemory;
 const MOST_ROUTES: usize = 256;
 
 /// Reads a record in any pieces: its header, and then its frames one by one, each judged as soon as
-/// it is there. It takes all its memory at opening, and copies no frame that stands whole in a piece.
+/// it is there. It takes all its memory at opening, and copies no frame that stands whole in a
+/// piece.
 #[derive(Drop)]
 pub struct RecordReader {
     alloc: Global,
@@ -84,26 +85,33 @@ impl RecordReader {
 
     /// Takes bytes of the piece up to the next whole header or frame, and answers how many.
     ///
-    /// `More` says that all were taken. `Err` comes at the first field that is wrong, as soon as its
-    /// bytes are there, and then at every later call; a header that is whole stays.
+    /// `More` says that all were taken. `Err` comes at the first field that is wrong, as soon as
+    /// its bytes are there, and then at every later call; a header that is whole stays.
     pub fn feed(&mut self, piece: &[u8]) -> Result<(usize, Event), RecordFault>
-        requires { self.old.fault ≡ None → self.old.start + length (begun self.old) + length piece.now < 2 ^ 63 }
+        requires { self.old.fault ≡ None
+            → self.old.start + length (begun self.old) + length piece.now < 2 ^ 63 }
 
         // Over all bytes that were ever given, however they were cut.
-        ensures stands { IfOk result (λ step. (taken : List ℕ) (frames : List Frame) → StandsFor self.old taken frames
-            → StandsFor self.new (taken ++ take step.0 piece.now) (frames_after step.1 frames self.new (take step.0 piece.now))) }
-        ensures fails { OnErr result ((taken : List ℕ) (frames : List Frame) → StandsFor self.old taken frames
+        ensures stands { IfOk result (λ step. (taken : List ℕ) (frames : List Frame)
+            → StandsFor self.old taken frames
+            → StandsFor self.new (taken ++ take step.0 piece.now)
+            (frames_after step.1 frames self.new (take step.0 piece.now))) }
+        ensures fails { OnErr result ((taken : List ℕ) (frames : List Frame)
+            → StandsFor self.old taken frames
             → StandsFor self.new (taken ++ piece.now) frames) }
 
         ensures few { IfOk result (λ step. step.0 ≤ length piece.now) }
         ensures progress { IfOk result (λ step. 0 < length piece.now → 0 < step.0) }
 
         // The frame that is whole can be told with the bytes taken.
-        ensures lies { IfOk result (λ step. self.new.whole ≡ true → IsFrameIn self.new (take step.0 piece.now)) }
+        ensures lies { IfOk result (λ step. self.new.whole ≡ true
+            → IsFrameIn self.new (take step.0 piece.now)) }
 
-        // The same, by what the reader knows.
-        ensures step { IfOk result (λ step. IsStep self.old piece.now step.0 step.1 self.new) }
-        ensures wrong { IfErr result (λ fault. IsFailed self.old.fault self.old piece.now fault.offset self.new) }
+        // What a call does and where it fails, by what the reader knows.
+        ensures step { IfOk result
+            (λ step. IsNextReading self.old piece.now step.0 step.1 self.new) }
+        ensures wrong { IfErr result
+            (λ fault. IsFailed self.old.fault self.old piece.now fault.offset self.new) }
         ensures idle { OnErr result (self.new.whole ≡ false) }
         ensures kept { OnErr result (KeepsHead self.old self.new) }
     {
@@ -112,19 +120,22 @@ impl RecordReader {
 
     /// The header, once it is whole.
     pub fn head(&self) -> Option<&RecordHead>
-        ensures head { MatchOption result (self.now.started ≡ false) (λ head. (self.now.started ≡ true) × (head.now ≡ self.now.head)) }
+        ensures head { MatchOption result (self.now.started ≡ false)
+            (λ head. (self.now.started ≡ true) × (head.now ≡ self.now.head)) }
         ensures spelled { IfSome result (λ head. IsSpelledHead head.now) }
         ensures valid { IfSome result (λ head. AreHeadValues head.now) }
     {
         if self.started { Some(&self.head) } else { None }
     }
 
-    /// The frame that the last call of `feed` made whole, if it did: when the datagram came, on which
-    /// port, and its bytes. It is given the bytes that this call took, where the frame may stand.
+    /// The frame that the last call of `feed` made whole, if it did: when the datagram came, on
+    /// which port, and its bytes. It is given the bytes that this call took, where the frame may
+    /// stand.
     pub fn frame<'a>(&'a self, taken: &'a [u8]) -> Option<(Stamp, u16, &'a [u8])>
         requires { self.now.whole ≡ true → IsFrameIn self.now taken.now }
         ensures held { MatchOption result (self.now.whole ≡ false) (λ frame. (self.now.whole ≡ true)
-            × (held_frame self.now taken.now ≡ record { stamp = frame.0; port = frame.1; datagram = frame.2.now })) }
+            × (held_frame self.now taken.now
+            ≡ record { stamp = frame.0; port = frame.1; datagram = frame.2.now })) }
         ensures most { IfSome result (λ frame. length frame.2.now ≤ 65535) }
     {
         if !self.whole {
@@ -137,7 +148,8 @@ impl RecordReader {
     /// The bytes of that frame, as they stand in the record.
     pub fn frame_bytes<'a>(&'a self, taken: &'a [u8]) -> Option<&'a [u8]>
         requires { self.now.whole ≡ true → IsFrameIn self.now taken.now }
-        ensures frame { MatchOption result (self.now.whole ≡ false) (λ bytes. (self.now.whole ≡ true)
+        ensures frame { MatchOption result (self.now.whole ≡ false)
+            (λ bytes. (self.now.whole ≡ true)
             × IsFrame first_stamp (held_frame self.now taken.now) bytes.now) }
         ensures most { IfSome result (λ bytes. length bytes.now ≤ 65555) }
     {
@@ -154,21 +166,26 @@ impl RecordReader {
     /// header or a frame, with their number.
     pub fn finish(&self) -> Result<(), RecordFault>
         // Over all bytes that were ever given, however they were cut.
-        ensures record_read { OnOk result ((taken : List ℕ) (frames : List Frame) → StandsFor self.now taken frames
+        ensures record_read { OnOk result ((taken : List ℕ) (frames : List Frame)
+            → StandsFor self.now taken frames
             → IsRecord self.now.head frames taken) }
-        ensures no_record { IfErr result (λ fault. (taken : List ℕ) (frames : List Frame) → StandsFor self.now taken frames
-            → IsRecordWrongAt frames taken fault.offset ⊎ (EndsInside taken × (fault.offset ≡ length taken))) }
+        ensures no_record { IfErr result (λ fault. (taken : List ℕ) (frames : List Frame)
+            → StandsFor self.now taken frames
+            → IsRecordWrongAt frames taken fault.offset
+            ⊎ (EndsInside taken × (fault.offset ≡ length taken))) }
 
-        // The same, by what the reader knows.
-        ensures finished { OnOk result (IsFinished self.now) }
-        ensures unfinished { IfErr result (λ fault. IsUnfinished self.now.fault self.now fault.offset) }
+        // Where a record ends, and where it does not, by what the reader knows.
+        ensures finished { OnOk result (IsAtEnd self.now) }
+        ensures unfinished { IfErr result
+            (λ fault. IsUnfinished self.now.fault self.now fault.offset) }
     {
         self.ending()
     }
 
     fn ending(&self) -> Result<(), RecordFault>
-        ensures finished { OnOk result (IsFinished self.now) }
-        ensures unfinished { IfErr result (λ fault. IsUnfinished self.now.fault self.now fault.offset) }
+        ensures finished { OnOk result (IsAtEnd self.now) }
+        ensures unfinished { IfErr result
+            (λ fault. IsUnfinished self.now.fault self.now fault.offset) }
     {
         if let Some(standing) = self.fault {
             return Err(standing);
@@ -184,10 +201,13 @@ impl RecordReader {
 
     // One call of `feed`.
     fn advance(&mut self, piece: &[u8]) -> Result<(usize, Event), RecordFault>
-        requires { self.old.fault ≡ None → self.old.start + length (begun self.old) + length piece.now < 2 ^ 63 }
-        ensures step { IfOk result (λ step. IsStep self.old piece.now step.0 step.1 self.new) }
+        requires { self.old.fault ≡ None
+            → self.old.start + length (begun self.old) + length piece.now < 2 ^ 63 }
+        ensures step { IfOk result
+            (λ step. IsNextReading self.old piece.now step.0 step.1 self.new) }
         ensures progress { IfOk result (λ step. 0 < length piece.now → 0 < step.0) }
-        ensures wrong { IfErr result (λ fault. IsFailed self.old.fault self.old piece.now fault.offset self.new) }
+        ensures wrong { IfErr result
+            (λ fault. IsFailed self.old.fault self.old piece.now fault.offset self.new) }
         ensures idle { OnErr result (self.new.whole ≡ false) }
         ensures kept { OnErr result (KeepsHead self.old self.new) }
     {
@@ -212,14 +232,16 @@ impl RecordReader {
         }
     }
 
-    // The same before the header is whole.
+    // Takes bytes of the piece up to the end of the header, which is not whole yet.
     fn feed_head(&mut self, piece: &[u8]) -> Result<(usize, Event), RecordFault>
         requires sound { self.old.fault ≡ None }
         requires first { self.old.started ≡ false }
         requires small { self.old.start + length (begun self.old) + length piece.now < 2 ^ 63 }
-        ensures step { IfOk result (λ step. IsStep self.old piece.now step.0 step.1 self.new) }
+        ensures step { IfOk result
+            (λ step. IsNextReading self.old piece.now step.0 step.1 self.new) }
         ensures progress { IfOk result (λ step. 0 < length piece.now → 0 < step.0) }
-        ensures wrong { IfErr result (λ fault. IsNewFault self.old piece.now fault.offset self.new) }
+        ensures wrong { IfErr result
+            (λ fault. IsNewFault self.old piece.now fault.offset self.new) }
         ensures kept { OnErr result (KeepsHead self.old self.new) }
     {
         match take_head(&mut self.held, self.judged, piece) {
@@ -246,15 +268,17 @@ impl RecordReader {
         }
     }
 
-    // The same behind the header.
+    // Takes bytes of the piece up to the end of the next frame.
     fn feed_frame(&mut self, piece: &[u8]) -> Result<(usize, Event), RecordFault>
         requires sound { self.old.fault ≡ None }
         requires later { self.old.started ≡ true }
         requires idle { self.old.whole ≡ false }
         requires small { self.old.start + length (begun self.old) + length piece.now < 2 ^ 63 }
-        ensures step { IfOk result (λ step. IsStep self.old piece.now step.0 step.1 self.new) }
+        ensures step { IfOk result
+            (λ step. IsNextReading self.old piece.now step.0 step.1 self.new) }
         ensures progress { IfOk result (λ step. 0 < length piece.now → 0 < step.0) }
-        ensures wrong { IfErr result (λ fault. IsNewFault self.old piece.now fault.offset self.new) }
+        ensures wrong { IfErr result
+            (λ fault. IsNewFault self.old piece.now fault.offset self.new) }
         ensures kept { OnErr result (KeepsHead self.old self.new) }
     {
         match take_frame(&mut self.held, self.last, piece) {

@@ -18,8 +18,8 @@ pub struct RecordHead {
     pub identity: Ident,
     /// The words of the controllee's fields at the start.
     pub initial: [u32; 19],
-    /// What commands may set: bandwidth, IF reference, RF reference, IF offset, reference level, gain
-    /// and sample rate.
+    /// What commands may set: bandwidth, IF reference, RF reference, IF offset, reference level,
+    /// gain and sample rate.
     pub bounds: [Limit; 7],
     /// Where the samples of each stream go, by rising stream IDs.
     pub routes: RouteList,

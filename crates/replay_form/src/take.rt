@@ -4,7 +4,7 @@ ghost use Rattle.replay_form.specs.Taking.{IsHeadTaken, IsHeadBegun, TakesSome, 
 ghost use Rattle.replay_form.specs.FrameFields.{IsFramePart, IsWholeFrame, IsFrameWrongAt};
 
 use crate::frame_field::{FRAME_HEAD, judge_frame, size_of_frame, whole_frame};
-use crate::head_field::{FIXED_SIZE, size_of_route};
+use crate::head_field::{FIXED_SIZE, ROUTES, size_of_route};
 use crate::judge_head::{is_second_form, judge_head};
 use crate::numbers::u32_at;
 use vrt_time::Stamp;
@@ -33,7 +33,7 @@ fn size_of_head(bytes: &[u8]) -> usize
     requires { 332 ≤ length bytes.now }
     ensures { result ≡ head_size bytes.now }
 {
-    FIXED_SIZE + size_of_route(is_second_form(bytes)) * u32_at(bytes, 36) as usize
+    FIXED_SIZE + size_of_route(is_second_form(bytes)) * u32_at(bytes, ROUTES) as usize
 }
 
 /// Moves bytes of the piece behind those held until there are `size`, and answers how many.
@@ -59,7 +59,8 @@ fn take_up_to(held: &mut Vec<u8>, piece: &[u8], size: usize) -> usize
 pub(crate) fn take_head(held: &mut Vec<u8>, judged: usize, piece: &[u8]) -> Result<HeadTaken, usize>
     requires begun { IsHeadOpen held.old.items judged }
     requires room { 65555 ≤ vec_capacity held.old }
-    ensures taken { IfOk result (λ taken. IsHeadTaken held.old.items piece.now taken held.new.items) }
+    ensures taken { IfOk result
+        (λ taken. IsHeadTaken held.old.items piece.now taken held.new.items) }
     ensures progress { IfOk result TakesSome }
     ensures wrong { IfErr result (λ offset. IsHeadWrongAt (held.old.items ++ piece.now) offset) }
     ensures capacity { vec_capacity held.old ≤ vec_capacity held.new }
@@ -79,11 +80,14 @@ pub(crate) fn take_head(held: &mut Vec<u8>, judged: usize, piece: &[u8]) -> Resu
     }
 }
 
-// The same, where the part in front of the routes is there.
+// Takes bytes of the piece until a header is whole whose part in front of the routes is there, and
+// judges each field as soon as it is there. `Err` has the offset of the first field that is wrong,
+// in the header.
 fn take_routes(held: &mut Vec<u8>, judged: usize, piece: &[u8]) -> Result<HeadTaken, usize>
     requires begun { IsHeadBegun held.old.items judged }
     requires room { 65555 ≤ vec_capacity held.old }
-    ensures taken { IfOk result (λ taken. IsHeadTaken held.old.items piece.now taken held.new.items) }
+    ensures taken { IfOk result
+        (λ taken. IsHeadTaken held.old.items piece.now taken held.new.items) }
     ensures wrong { IfErr result (λ offset. IsHeadWrongAt (held.old.items ++ piece.now) offset) }
     ensures capacity { vec_capacity held.old ≤ vec_capacity held.new }
 {
@@ -101,15 +105,17 @@ fn take_routes(held: &mut Vec<u8>, judged: usize, piece: &[u8]) -> Result<HeadTa
 }
 
 /// Takes bytes of the piece until a frame is whole, and judges each field as soon as it is there. A
-/// frame that stands in the piece alone stays there. `Err` has the offset of the first field that is
-/// wrong, in the frame.
+/// frame that stands in the piece alone stays there. `Err` has the offset of the first field that
+/// is wrong, in the frame.
 #[inline]
 pub(crate) fn take_frame(held: &mut Vec<u8>, last: Stamp, piece: &[u8]) -> Result<FrameTaken, usize>
     requires begun { IsFramePart last held.old.items }
     requires room { 65555 ≤ vec_capacity held.old }
-    ensures taken { IfOk result (λ taken. IsFrameTaken last held.old.items piece.now taken held.new.items) }
+    ensures taken { IfOk result
+        (λ taken. IsFrameTaken last held.old.items piece.now taken held.new.items) }
     ensures progress { IfOk result FrameTakesSome }
-    ensures wrong { IfErr result (λ offset. IsFrameWrongAt last (held.old.items ++ piece.now) offset) }
+    ensures wrong { IfErr result
+        (λ offset. IsFrameWrongAt last (held.old.items ++ piece.now) offset) }
     ensures capacity { vec_capacity held.old ≤ vec_capacity held.new }
 {
     if !held.as_slice().is_empty() {
@@ -121,14 +127,18 @@ pub(crate) fn take_frame(held: &mut Vec<u8>, last: Stamp, piece: &[u8]) -> Resul
     }
 }
 
-// The same where the frame doesn't stand in the piece alone, or is wrong.
+// Takes bytes of the piece until a frame is whole that doesn't stand in the piece alone, or is
+// wrong, and judges each field as soon as it is there. `Err` has the offset of the first field that
+// is wrong, in the frame.
 #[inline(never)]
 fn take_in_parts(held: &mut Vec<u8>, last: Stamp, piece: &[u8]) -> Result<FrameTaken, usize>
     requires begun { IsFramePart last held.old.items }
     requires room { 65555 ≤ vec_capacity held.old }
-    ensures taken { IfOk result (λ taken. IsFrameMoved last held.old.items piece.now taken held.new.items) }
+    ensures taken { IfOk result
+        (λ taken. IsFrameMoved last held.old.items piece.now taken held.new.items) }
     ensures progress { IfOk result FrameTakesSome }
-    ensures wrong { IfErr result (λ offset. IsFrameWrongAt last (held.old.items ++ piece.now) offset) }
+    ensures wrong { IfErr result
+        (λ offset. IsFrameWrongAt last (held.old.items ++ piece.now) offset) }
     ensures capacity { vec_capacity held.old ≤ vec_capacity held.new }
 {
     let first = take_up_to(held, piece, FRAME_HEAD);
@@ -144,7 +154,7 @@ fn take_in_parts(held: &mut Vec<u8>, last: Stamp, piece: &[u8]) -> Result<FrameT
     }
 }
 
-// The same, where the part in front of the datagram is there.
+// Takes bytes of the piece until a frame is whole whose part in front of the datagram is there.
 fn take_datagram(held: &mut Vec<u8>, last: Stamp, piece: &[u8]) -> FrameTaken
     requires begun { IsFrameBegun last held.old.items }
     requires room { 65555 ≤ vec_capacity held.old }

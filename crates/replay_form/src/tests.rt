@@ -22,7 +22,7 @@ fn routed() -> [u8; 340] {
     bytes
 }
 
-// The same in form 2.
+// A header of form 2 with one route, from stream 1 to port 9.
 fn second_form() -> [u8; 348] {
     let mut bytes = [0; 348];
     put_words(&mut bytes, 0, &test_records::second_form());
@@ -60,8 +60,8 @@ fn end_of(at: usize, first: usize, piece: usize) -> usize
     if at < first { first } else { at + piece }
 }
 
-// The sum of the ports and the lengths of all frames, and the verdict, where the bytes come in pieces
-// of this size, behind a first one. The bytes of the frames are put behind one another.
+// The sum of the ports and the lengths of all frames, and the verdict, where the bytes come in
+// pieces of this size, behind a first one. The bytes of the frames are put behind one another.
 fn verdict_behind(
     alloc: Global,
     bytes: &[u8],
@@ -90,7 +90,8 @@ fn verdict_behind(
     Ok((told, reader.finish()))
 }
 
-// The same in pieces of this size alone.
+// The sum of the ports and the lengths of all frames, and the verdict, where all pieces have this
+// size.
 fn verdict(
     alloc: Global,
     bytes: &[u8],
@@ -189,7 +190,7 @@ fn a_fault_has_the_offset_of_its_field(rt: HostRuntime) -> Result<(), Fail> {
     bytes[..340].copy_from_slice(&routed());
     put_words(&mut bytes, 85, &[0x6553_F10A, 232, 3_567_587_328]);
     assert!(rt; whole_verdict(alloc, &bytes).ok() == Some((0, bad(344))));
-    // The same port twice in a route of form 2.
+    // One port twice in a route of form 2.
     let mut bytes = [0; 348];
     put_words(&mut bytes, 0, &test_records::second_form());
     put_words(&mut bytes, 83, &[1, 0x0002_0009, 0x0009_0000, 0]);

@@ -1,7 +1,7 @@
 -- The header begins, or goes on.
 use Rattle.std.proofs.Common.{◌≡◌, ◌<◌, ◌+◌, length, sym, ap, subst, ◌∙◌, vec_len, arith}
 use Rattle.std.proofs.lemmas.List.{take_rest}
-use Rattle.replay_form.specs.HeadFields.{IsJudged, IsHeadWrongAt, field_count}
+use Rattle.replay_form.specs.HeadFields.{AreJudged, IsHeadWrongAt, field_count}
 use Rattle.replay_form.proofs.Taking.{open_resumes, wrong_in_piece, whole_piece, judged_open, begins, part_of_rest, whole_of_rest, least_size, head_takes_some}
 use Rattle.replay_form.proofs.take.take_head.Goals as goal
 
@@ -24,7 +24,7 @@ pub returns-then-len-lt-FIXED_SIZE-clause-taken : goal.returns-then-len-lt-FIXED
 returns-then-len-lt-FIXED_SIZE-clause-taken c =
     let old = c.args.held.now.items in
     let new = c.take_up_to-first.new.held.items in
-    let judged = subst (λ xs. IsJudged xs c.in-Ok.judged (field_count xs)) c.deref.ensures.value c.in-Ok.ensures.judged in
+    let judged = subst (λ xs. AreJudged xs c.in-Ok.judged (field_count xs)) c.deref.ensures.value c.in-Ok.ensures.judged in
     let count : length new ≡ vec_len c.take_up_to-first.new.held = sym (ap length c.deref.ensures.value) ∙ c.deref.ensures.len in
     let short : length new < 332 = omega arith in
     let least = least_size new in record {
@@ -36,7 +36,7 @@ pub take_routes-requires-clause-begun : goal.take_routes-requires-clause-begun
 take_routes-requires-clause-begun c =
     let old = c.args.held.now.items in
     let new = c.take_up_to-first.new.held.items in
-    let judged = subst (λ xs. IsJudged xs c.in-Ok.judged (field_count xs)) c.deref.ensures.value c.in-Ok.ensures.judged in
+    let judged = subst (λ xs. AreJudged xs c.in-Ok.judged (field_count xs)) c.deref.ensures.value c.in-Ok.ensures.judged in
     let count : length new ≡ vec_len c.take_up_to-first.new.held = sym (ap length c.deref.ensures.value) ∙ c.deref.ensures.len in
     begins old c.args.piece.now new c.take_up_to-first.result c.args.judged c.in-Ok.judged c.take_up_to-first.ensures.held c.requires.begun
     c.take_up_to-first.ensures.within c.take_up_to-first.ensures.none (omega arith) judged

@@ -1,6 +1,6 @@
 -- The header goes on with its routes.
 use Rattle.std.proofs.Common.{◌≡◌, ◌<◌, ◌≤◌, length, sym, ap, subst, ◌∙◌, vec_len, arith}
-use Rattle.replay_form.specs.HeadFields.{IsJudged, IsHeadWrongAt, field_count, head_size}
+use Rattle.replay_form.specs.HeadFields.{AreJudged, IsHeadWrongAt, field_count, head_size}
 use Rattle.replay_form.proofs.Taking.{few_routes, begun_resumes, wrong_in_piece, whole_piece, judged_open, judged_whole, grown_size}
 use Rattle.replay_form.proofs.take.take_routes.Goals as goal
 
@@ -30,7 +30,7 @@ pub returns-then-len-size-clause-taken : goal.returns-then-len-size-clause-taken
 returns-then-len-size-clause-taken c =
     let old = c.args.held.now.items in
     let new = c.take_up_to-count.new.held.items in
-    let judged = subst (λ xs. IsJudged xs c.in-Ok.judged (field_count xs)) c.deref-2.ensures.value c.in-Ok.ensures.judged in
+    let judged = subst (λ xs. AreJudged xs c.in-Ok.judged (field_count xs)) c.deref-2.ensures.value c.in-Ok.ensures.judged in
     let size : c.size_of_head-size.result ≡ head_size old = c.size_of_head-size.ensures ∙ ap head_size c.deref.ensures.value in
     let grown = grown_size old _ new c.args.judged c.take_up_to-count.ensures.held c.requires.begun in
     let count : length new ≡ vec_len c.take_up_to-count.new.held = sym (ap length c.deref-2.ensures.value) ∙ c.deref-2.ensures.len in
@@ -43,7 +43,7 @@ pub returns-else-len-size-clause-taken : goal.returns-else-len-size-clause-taken
 returns-else-len-size-clause-taken c =
     let old = c.args.held.now.items in
     let new = c.take_up_to-count.new.held.items in
-    let judged = subst (λ xs. IsJudged xs c.in-Ok.judged (field_count xs)) c.deref-2.ensures.value c.in-Ok.ensures.judged in
+    let judged = subst (λ xs. AreJudged xs c.in-Ok.judged (field_count xs)) c.deref-2.ensures.value c.in-Ok.ensures.judged in
     let size : c.size_of_head-size.result ≡ head_size old = c.size_of_head-size.ensures ∙ ap head_size c.deref.ensures.value in
     let grown = grown_size old _ new c.args.judged c.take_up_to-count.ensures.held c.requires.begun in
     let count : length new ≡ vec_len c.take_up_to-count.new.held = sym (ap length c.deref-2.ensures.value) ∙ c.deref-2.ensures.len in

@@ -1,7 +1,7 @@
 -- The laws of the definitions, at the call's facts.
 use Rattle.std.proofs.Common.{Result, Ok, Err, IfErr, OnErr}
 use Rattle.std.proofs.lemmas.Result.{IfOk-weaker}
-use Rattle.pcap_frames.specs.Reading.{IsStep, IsFailed}
+use Rattle.pcap_frames.specs.Reading.{IsNextReading, IsFailed}
 use Rattle.pcap_frames.proofs.ReadingLaws.{step_stands, step_lies, failed_stands}
 use Rattle.pcap_frames.proofs.reader.CaptureReader.feed.Goals as goal
 
@@ -11,7 +11,7 @@ on_err P Q (Err e) f q = f e q
 
 pub returns-clause-stands : goal.returns-clause-stands
 returns-clause-stands c =
-    IfOk-weaker c.advance.result (λ step. IsStep c.args.self.now c.args.piece.now step.0 step.1 c.advance.new.self) _
+    IfOk-weaker c.advance.result (λ step. IsNextReading c.args.self.now c.args.piece.now step.0 step.1 c.advance.new.self) _
     (λ step is taken records stands. step_stands c.args.self.now c.args.piece.now step.0 step.1 c.advance.new.self taken records is stands) c.advance.ensures.step
 
 pub returns-clause-fails : goal.returns-clause-fails
@@ -21,5 +21,5 @@ returns-clause-fails c =
 
 pub returns-clause-lies : goal.returns-clause-lies
 returns-clause-lies c =
-    IfOk-weaker c.advance.result (λ step. IsStep c.args.self.now c.args.piece.now step.0 step.1 c.advance.new.self) _
+    IfOk-weaker c.advance.result (λ step. IsNextReading c.args.self.now c.args.piece.now step.0 step.1 c.advance.new.self) _
     (λ step is. step_lies c.args.self.now c.args.piece.now step.0 step.1 c.advance.new.self is) c.advance.ensures.step

@@ -1,7 +1,7 @@
 use Rattle.std.proofs.Common.{◌≡◌, ◌+◌, ◌*◌, ◌≤◌, ℕ, List, length, take, drop}
 use Rattle.vrt_words.specs.Words.{AreBytes}
 use Rattle.replay_form.specs.Numbers.{AreNumbers}
-use Rattle.replay_form.proofs.head_spelling.put_words.Given as goal
+use Rattle.replay_form.proofs.head_writing.put_words.Given as goal
 
 -- the words so far
 abbrev pub invariant-loop-i : goal.invariant-loop-i

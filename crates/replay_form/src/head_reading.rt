@@ -5,7 +5,10 @@ ghost use Rattle.replay_form.specs.HeadFields.{IsWholeHead, is_second, route_at}
 ghost use Rattle.replay_form.specs.HeadRanges.{HeadRanges};
 ghost use Rattle.replay_form.specs.Numbers.{number_at};
 
-use crate::head_field::{start_of_port, start_of_route};
+use crate::head_field::{
+    CID, CONTEXT_WINDOW, DATA_WINDOW, GREATEST, IDENTITY, IDENTITY_FORM, INITIAL, KEPT, LEAST,
+    MAX_WORDS, NUMBER, PENDING, ROUTES, STEP, TSI, start_of_bound, start_of_port, start_of_route,
+};
 use crate::judge_head::is_second_form;
 use crate::numbers::{i64_at, read_words, u16_at, u32_at, u64_at};
 use crate::record_head::RecordHead;
@@ -27,13 +30,13 @@ pub(crate) fn read_head(bytes: &[u8], routes: Vec<Route>) -> RecordHead
     let profile = profile_in(bytes);
     let identity = identity_in(bytes);
     let mut initial = [0; 19];
-    read_words(bytes, 60, &mut initial);
+    read_words(bytes, INITIAL, &mut initial);
     let bounds = bounds_of(bytes);
     let routes = read_routes(bytes, second, routes);
     RecordHead {
         form: if second { 2 } else { 1 },
         profile,
-        max_words: u32_at(bytes, 16),
+        max_words: u32_at(bytes, MAX_WORDS),
         limits: limits_of(bytes),
         identity,
         initial,
@@ -47,7 +50,7 @@ fn profile_in(bytes: &[u8]) -> Profile
     requires right { HeadRanges bytes.now }
     ensures { result ≡ profile_of (number_at 8 4 bytes.now) (number_at 12 4 bytes.now) }
 {
-    match Profile::of(u32_at(bytes, 8), u32_at(bytes, 12) as u8) {
+    match Profile::of(u32_at(bytes, CID), u32_at(bytes, TSI) as u8) {
         Some(profile) => profile,
         None => unreachable!(),
     }
@@ -58,10 +61,10 @@ fn limits_of(bytes: &[u8]) -> Limits
     ensures { result ≡ limits_in bytes.now }
 {
     Limits {
-        data_window: u32_at(bytes, 20),
-        context_window: u32_at(bytes, 24),
-        kept: u32_at(bytes, 28),
-        pending: u32_at(bytes, 32),
+        data_window: u32_at(bytes, DATA_WINDOW),
+        context_window: u32_at(bytes, CONTEXT_WINDOW),
+        kept: u32_at(bytes, KEPT),
+        pending: u32_at(bytes, PENDING),
     }
 }
 
@@ -70,12 +73,12 @@ fn identity_in(bytes: &[u8]) -> Ident
     requires right { HeadRanges bytes.now }
     ensures { IsIdentity result bytes.now }
 {
-    match u32_at(bytes, 40) {
+    match u32_at(bytes, IDENTITY_FORM) {
         0 => Ident::None,
-        1 => Ident::Word(u32_at(bytes, 44)),
+        1 => Ident::Word(u32_at(bytes, IDENTITY)),
         _ => {
             let mut words = [0; 4];
-            read_words(bytes, 44, &mut words);
+            read_words(bytes, IDENTITY, &mut words);
             Ident::Uuid(words)
         }
     }
@@ -101,12 +104,12 @@ fn limit_of(bytes: &[u8], bound: usize) -> Limit
     requires there { 332 ≤ length bytes.now }
     ensures { result ≡ limit_in bound bytes.now }
 {
-    let offset = 136 + 28 * bound;
+    let offset = start_of_bound(bound);
     Limit {
         settable: u32_at(bytes, offset) == 1,
-        step: u64_at(bytes, offset + 4),
-        least: i64_at(bytes, offset + 12),
-        greatest: i64_at(bytes, offset + 20),
+        step: u64_at(bytes, offset + STEP),
+        least: i64_at(bytes, offset + LEAST),
+        greatest: i64_at(bytes, offset + GREATEST),
     }
 }
 
@@ -118,7 +121,7 @@ fn read_routes(bytes: &[u8], second: bool, mut routes: Vec<Route>) -> Vec<Route>
     requires room { 256 ≤ vec_capacity routes }
     ensures { result.items ≡ routes_in second (number_at 36 4 bytes.now) bytes.now }
 {
-    for route in 0..u32_at(bytes, 36) {
+    for route in 0..u32_at(bytes, ROUTES) {
         routes.push_reserved(route_of(bytes, second, route));
     }
     routes
@@ -135,11 +138,11 @@ fn route_of(bytes: &[u8], second: bool, route: u32) -> Route
     if !second {
         return Route {
             stream,
-            ports: [u16_at(bytes, start + 4), 0, 0, 0],
+            ports: [u16_at(bytes, start_of_port(false, route, 0)), 0, 0, 0],
             number: 1,
         };
     }
-    let number = u16_at(bytes, start + 4) as u8;
+    let number = u16_at(bytes, start + NUMBER) as u8;
     let ports = [
         u16_at(bytes, start_of_port(true, route, 0)),
         u16_at(bytes, start_of_port(true, route, 1)),

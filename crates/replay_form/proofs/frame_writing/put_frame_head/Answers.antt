@@ -1,6 +1,6 @@
 -- Each number leaves the bytes behind it.
 use Rattle.std.proofs.Common.{◌∙◌, arith}
-use Rattle.replay_form.proofs.frame_spelling.put_frame_head.Goals as goal
+use Rattle.replay_form.proofs.frame_writing.put_frame_head.Goals as goal
 
 pub returns-clause-stays : goal.returns-clause-stays
 returns-clause-stays c =

@@ -3,7 +3,7 @@ use Rattle.std.proofs.Common.{◌≡◌, ◌+◌, ◌*◌, ℕ, List, Bool, take
 use Rattle.replay_form.specs.HeadFields.{route_size}
 use Rattle.replay_form.specs.HeadSpelling.{AreRoutesSpelled}
 use Rattle.vrt_fields.specs.declared.route.Route.{Route}
-use Rattle.replay_form.proofs.head_spelling.put_routes.Goals as goal
+use Rattle.replay_form.proofs.head_writing.put_routes.Goals as goal
 
 abbrev Agrees : List Route → List ℕ → List ℕ → Bool → Type 0
 Agrees routes old new second =

@@ -1,6 +1,6 @@
 use Rattle.std.proofs.Common.{◌≡◌, ◌≤◌, vec_len, vec_capacity}
 use Rattle.replay_form.specs.Head.{routes_in}
-use Rattle.replay_form.proofs.read_head.read_routes.Given as goal
+use Rattle.replay_form.proofs.head_reading.read_routes.Given as goal
 
 -- the routes so far, within the room
 abbrev pub invariant-loop-route : goal.invariant-loop-route

@@ -1,6 +1,6 @@
 use Rattle.std.proofs.Common.{◌≡◌, ◌+◌, ◌*◌, ◌≤◌, ℕ, List, take, drop}
 use Rattle.replay_form.specs.HeadSpelling.{AreLimitsSpelled}
-use Rattle.replay_form.proofs.head_spelling.put_bounds.Given as goal
+use Rattle.replay_form.proofs.head_writing.put_bounds.Given as goal
 
 -- the entries so far
 abbrev pub invariant-loop-bound : goal.invariant-loop-bound

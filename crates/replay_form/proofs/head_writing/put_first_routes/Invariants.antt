@@ -1,6 +1,6 @@
 use Rattle.std.proofs.Common.{◌≡◌, ◌+◌, ◌*◌, ◌≤◌, false, ℕ, List, take, drop}
 use Rattle.replay_form.specs.HeadSpelling.{AreRoutesSpelled}
-use Rattle.replay_form.proofs.head_spelling.put_first_routes.Given as goal
+use Rattle.replay_form.proofs.head_writing.put_first_routes.Given as goal
 
 -- the routes so far
 abbrev pub invariant-loop-place : goal.invariant-loop-place

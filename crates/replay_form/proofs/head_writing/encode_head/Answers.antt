@@ -6,7 +6,7 @@ use Rattle.replay_form.specs.HeadFields.{is_second, route_size}
 use Rattle.replay_form.specs.HeadSpelling.{AreRoutesSpelled}
 use Rattle.replay_form.proofs.HeadSpellingLaws.{head_start, head_form, identity_spelled, limits_spelled, routes_spelled, few_routes, size_told}
 use Rattle.replay_form.proofs.HeadSaid.{spelled_by_values}
-use Rattle.replay_form.proofs.head_spelling.encode_head.Goals as goal
+use Rattle.replay_form.proofs.head_writing.encode_head.Goals as goal
 
 pub put_limits-requires-clause-few : goal.put_limits-requires-clause-few
 put_limits-requires-clause-few c =

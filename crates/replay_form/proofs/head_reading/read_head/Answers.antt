@@ -1,6 +1,6 @@
 -- The rules of the fields give the ranges of the numbers.
 use Rattle.replay_form.proofs.HeadLaws.{whole_ranges}
-use Rattle.replay_form.proofs.read_head.read_head.Goals as goal
+use Rattle.replay_form.proofs.head_reading.read_head.Goals as goal
 
 pub profile_in-profile-requires-clause-right : goal.profile_in-profile-requires-clause-right
 profile_in-profile-requires-clause-right c = whole_ranges c.args.bytes.now c.requires.whole

@@ -1,6 +1,6 @@
 -- All seven entries are written.
 use Rattle.std.proofs.Common.{◌≡◌, ◌+◌, ◌*◌, take, subst, arith}
-use Rattle.replay_form.proofs.head_spelling.put_bounds.Goals as goal
+use Rattle.replay_form.proofs.head_writing.put_bounds.Goals as goal
 
 pub returns-clause-agrees : goal.returns-clause-agrees
 returns-clause-agrees c = λ bytes spelled same.

@@ -4,7 +4,7 @@ use Rattle.vrt_words.specs.Words.{AreBytes}
 use Rattle.replay_form.specs.FrameFields.{Frame, IsFrame}
 use Rattle.replay_form.proofs.FrameSpelling.{frame_spelled, frame_head, spelled_head, written, behind_frame}
 use Rattle.replay_form.proofs.FrameSpelling.{frame_bytes}
-use Rattle.replay_form.proofs.frame_spelling.encode_frame.Goals as goal
+use Rattle.replay_form.proofs.frame_writing.encode_frame.Goals as goal
 
 pub returns-clause-again : goal.returns-clause-again
 returns-clause-again c = λ last spelled fit is.

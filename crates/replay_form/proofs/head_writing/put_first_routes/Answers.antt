@@ -1,6 +1,6 @@
 -- One route after another.
 use Rattle.std.proofs.Common.{◌≡◌, ◌+◌, ◌*◌, ◌∙◌, take, length, subst, arith}
-use Rattle.replay_form.proofs.head_spelling.put_first_routes.Goals as goal
+use Rattle.replay_form.proofs.head_writing.put_first_routes.Goals as goal
 
 pub loop-place-preserved : goal.loop-place-preserved
 loop-place-preserved c = record {

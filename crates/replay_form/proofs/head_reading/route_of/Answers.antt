@@ -3,7 +3,7 @@ use Rattle.std.proofs.Common.{◌≡◌, ◌+◌, ◌≤◌, true, sym, ap, subs
 use Rattle.replay_form.specs.HeadFields.{is_second, route_at}
 use Rattle.replay_form.proofs.HeadLaws.{has_ports}
 use Rattle.replay_form.specs.Numbers.{number_at}
-use Rattle.replay_form.proofs.read_head.route_of.Goals as goal
+use Rattle.replay_form.proofs.head_reading.route_of.Goals as goal
 
 pub overflow_cast-number : goal.overflow_cast-number
 overflow_cast-number c =
