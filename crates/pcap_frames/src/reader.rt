@@ -42,9 +42,26 @@ impl Model for CaptureReader {
 
     ghost Value = { Reading };
 
-    ghost view = { λ r. record { header = r.header; stage = r.stage; stamp = r.stamp; start = r.start; whole = r.whole; held = r.held.items; fault = r.fault } };
+    ghost view = { λ r. record {
+      header = r.header;
+      stage = r.stage;
+      stamp = r.stamp;
+      start = r.start;
+      whole = r.whole;
+      held = r.held.items;
+      fault = r.fault;
+    } };
 
-    ghost invariant = { λ r. Keeps (record { header = r.header; stage = r.stage; stamp = r.stamp; start = r.start; whole = r.whole; held = r.held.items; fault = r.fault }) (vec_capacity r.held) };
+    ghost invariant = { λ r. Keeps (record {
+      header = r.header;
+      stage = r.stage;
+      stamp = r.stamp;
+      start = r.start;
+      whole = r.whole;
+      held = r.held.items;
+      fault = r.fault;
+    })
+        (vec_capacity r.held) };
 }
 
 impl CaptureReader {

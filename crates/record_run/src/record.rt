@@ -24,7 +24,11 @@ impl Model for ReceivedFrame {
 
     ghost Value = { Frame };
 
-    ghost view = { λ it. record { stamp = it.stamp; port = it.port; datagram = it.datagram.items } };
+    ghost view = { λ it. record {
+      stamp = it.stamp;
+      port = it.port;
+      datagram = it.datagram.items;
+    } };
 }
 
 impl Intake for RecordReader {

@@ -91,7 +91,12 @@ fn put_number(out: &mut TextBuffer, word: &[u8], number: u64)
 }
 
 impl<I: Intake> Teller<I> for TrialTeller {
-    ghost tells = { λ teller. trial_tells (record { told = teller.told; owes = teller.owes; ended = teller.ended; wants = teller.wants }) };
+    ghost tells = { λ teller. trial_tells (record {
+      told = teller.told;
+      owes = teller.owes;
+      ended = teller.ended;
+      wants = teller.wants;
+    }) };
 
     fn wants_memory(&self) -> bool {
         self.wants

@@ -52,9 +52,26 @@ impl Model for RecordReader {
 
     ghost Value = { Reading };
 
-    ghost view = { λ r. record { started = r.started; head = r.head; last = r.last; start = r.start; whole = r.whole; held = r.held.items; fault = r.fault } };
+    ghost view = { λ r. record {
+      started = r.started;
+      head = r.head;
+      last = r.last;
+      start = r.start;
+      whole = r.whole;
+      held = r.held.items;
+      fault = r.fault;
+    } };
 
-    ghost invariant = { λ r. Keeps (record { started = r.started; head = r.head; last = r.last; start = r.start; whole = r.whole; held = r.held.items; fault = r.fault }) r.judged (vec_capacity r.held) (vec_capacity r.routes) r.routes.items };
+    ghost invariant = { λ r. Keeps (record {
+      started = r.started;
+      head = r.head;
+      last = r.last;
+      start = r.start;
+      whole = r.whole;
+      held = r.held.items;
+      fault = r.fault;
+    })
+        r.judged (vec_capacity r.held) (vec_capacity r.routes) r.routes.items };
 }
 
 impl RecordReader {
