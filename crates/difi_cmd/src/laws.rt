@@ -27,7 +27,8 @@ pub fn bytes_have_one_text()
 #[inline]
 pub fn bytes_have_one_status()
     ensures { (most : ℕ) (bytes : List ℕ) (status other : Status)
-        → IsVerdict record_grammar most bytes status → IsVerdict record_grammar most bytes other → status ≡ other }
+        → IsVerdict record_grammar most bytes status → IsVerdict record_grammar most bytes other
+        → status ≡ other }
 {}
 
 /// Laws that a proof can cite: a record has one migrated text, which is its header in form 2 and the
@@ -38,13 +39,17 @@ pub fn migrated_once()
     ensures one_text { (head : RecordHead) (frames : List Frame) (text other : List ℕ)
         → IsMigrated head frames text → IsMigrated head frames other → text ≡ other }
     ensures frames_stand { (head : RecordHead) (frames : List Frame) (bytes text : List ℕ)
-        → AreBytes bytes → IsRecord head frames bytes → IsMigrated head frames text ↔ ChangesForm head bytes text }
+        → AreBytes bytes → IsRecord head frames bytes → IsMigrated head frames text
+        ↔ ChangesForm head bytes text }
     ensures second_form { (head : RecordHead) (frames : List Frame) (bytes text : List ℕ)
-        → IsRecord head frames bytes → IsMigrated head frames text → IsRecord (in_second_form head) frames text }
+        → IsRecord head frames bytes → IsMigrated head frames text
+        → IsRecord (in_second_form head) frames text }
     ensures again { (head : RecordHead) (frames : List Frame) (text other : List ℕ)
-        → IsMigrated head frames text → IsMigrated (in_second_form head) frames other → other ≡ text }
+        → IsMigrated head frames text → IsMigrated (in_second_form head) frames other
+        → other ≡ text }
     ensures stays { (head : RecordHead) (frames : List Frame) (bytes : List ℕ)
-        → AreBytes bytes → IsRecord head frames bytes → head.form ≡ 2 → IsMigrated head frames bytes }
+        → AreBytes bytes → IsRecord head frames bytes → head.form ≡ 2
+        → IsMigrated head frames bytes }
 {}
 
 /// Laws that a proof can cite: a record that is migrated keeps its releases. What `replay` writes of the
@@ -55,12 +60,17 @@ pub fn migrated_once()
 pub fn migrated_keeps_its_releases()
     ensures whole { (bytes text : List ℕ) → IsMigratedOf bytes text → HaveSameReleases bytes text }
     ensures so_far { (bytes text releases : List ℕ)
-        → IsMigratedSoFar bytes text → AreReleasesSoFar bytes releases ↔ AreReleasesSoFar text releases }
+        → IsMigratedSoFar bytes text → AreReleasesSoFar bytes releases
+        ↔ AreReleasesSoFar text releases }
     ensures valid { (bytes text : List ℕ) → IsMigratedOf bytes text → IsOfSecondForm text }
     ensures there { (head : RecordHead) (frames : List Frame) (bytes : List ℕ) → AreBytes bytes
         → IsRecord head frames bytes → (text : List ℕ) × IsMigratedOf bytes text }
-    ensures one_port { (head other : RecordHead) (frames : List Frame) (bytes others : List ℕ) → AreBytes bytes → AreBytes others
-        → IsRecord head frames bytes → IsRecord other frames others → HasOnePortEach head other → HaveSameReleases bytes others }
-    ensures other_form { (head : RecordHead) (form : ℕ) (frames : List Frame) (bytes others : List ℕ)
-        → IsRecord head frames bytes → IsRecord (record head { form = form }) frames others → HaveSameReleases bytes others }
+    ensures one_port { (head other : RecordHead) (frames : List Frame) (bytes others : List ℕ)
+        → AreBytes bytes → AreBytes others
+        → IsRecord head frames bytes → IsRecord other frames others → HasOnePortEach head other
+        → HaveSameReleases bytes others }
+    ensures other_form { (head : RecordHead) (form : ℕ) (frames : List Frame)
+        (bytes others : List ℕ)
+        → IsRecord head frames bytes → IsRecord (record head { form = form }) frames others
+        → HaveSameReleases bytes others }
 {}

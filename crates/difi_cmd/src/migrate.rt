@@ -30,8 +30,10 @@ pub(crate) fn migrate<S: Source, K: Sink>(
           writes = K.faults sink.old;
           writes_now = K.faults sink.new;
         }) }
-    ensures complete { ¬ Rose (S.faults source.old) (S.faults source.new) → ¬ Rose (K.faults sink.old) (K.faults sink.new) →
-        IfSome (S.left source.old) (λ bytes. (result ≡ Status.Memory) ⊎ IsVerdict record_grammar max_bytes bytes result) }
+    ensures complete { ¬ Rose (S.faults source.old) (S.faults source.new)
+        → ¬ Rose (K.faults sink.old) (K.faults sink.new) →
+        IfSome (S.left source.old) (λ bytes. (result ≡ Status.Memory)
+        ⊎ IsVerdict record_grammar max_bytes bytes result) }
     ensures untouched { result ≡ Status.Memory → (source.new ≡ source.old) × (sink.new ≡ sink.old) }
 {
     let Ok(mut reader) = RecordReader::open(alloc) else {

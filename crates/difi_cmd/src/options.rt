@@ -85,7 +85,8 @@ fn matches_of<'a>(
     requires rows { are_rows (option_rows rows.now) ≡ true }
     requires plain { has_stray_word words.now ≡ false }
     ensures given { IfOk result (λ matches.
-        GiveValues (names_of (option_rows rows.now)) (drop 1 (map string_bytes words.now)) (first_value (found_of matches))) }
+        GiveValues (names_of (option_rows rows.now)) (drop 1 (map string_bytes words.now))
+        (first_value (found_of matches))) }
     ensures usage { result ≡ Err WordsFault.Usage → (value : Text → Option Text) →
         ¬ GiveValues (names_of (option_rows rows.now)) (drop 1 (map string_bytes words.now)) value }
 {
@@ -121,7 +122,8 @@ fn numbers_in(
     ensures given { IfOk result (λ numbers. AreGiven (option_rows rows.now)
         (λ name. value_list (first_value (found_of matches.now) name)) numbers.items) }
     ensures usage { result ≡ Err WordsFault.Usage → (numbers : List (Option ℕ)) →
-        ¬ AreGiven (option_rows rows.now) (λ name. value_list (first_value (found_of matches.now) name)) numbers }
+        ¬ AreGiven (option_rows rows.now)
+        (λ name. value_list (first_value (found_of matches.now) name)) numbers }
 {
     let mut numbers = Vec::new(alloc);
     for row in rows {
@@ -155,7 +157,8 @@ impl OptionRow {
         ensures given { IfOk result (λ number.
             Gives (option_row self.now) (value_list (option_map (λ s. s.now) value.entry)) number) }
         ensures usage { result ≡ Err WordsFault.Usage → (number : Option ℕ) →
-            ¬ Gives (option_row self.now) (value_list (option_map (λ s. s.now) value.entry)) number }
+            ¬ Gives (option_row self.now)
+            (value_list (option_map (λ s. s.now) value.entry)) number }
         ensures memory { result ≢ Err WordsFault.Memory }
     {
         let Some(text) = value else {
@@ -172,7 +175,8 @@ impl LeftOut {
     // The number of an option that is left out.
     fn number(self) -> Result<Option<u64>, WordsFault>
         ensures given { IfOk result (λ number. IsLeftOut self number) }
-        ensures usage { result ≡ Err WordsFault.Usage → (number : Option ℕ) → ¬ IsLeftOut self number }
+        ensures usage { result ≡ Err WordsFault.Usage → (number : Option ℕ)
+            → ¬ IsLeftOut self number }
         ensures memory { result ≢ Err WordsFault.Memory }
     {
         match self {

@@ -79,7 +79,8 @@ impl Report {
     fn note_packet(&mut self, packet: &Packet<'_>, out: &mut TextBuffer)
         requires fits { self.old.frames + 1 < 2 ^ 63 }
         requires room { length out.old < 65536 }
-        ensures { IsNoted self.old self.new out.old out.new (account_of self.old.listing (value_of packet.now)) }
+        ensures { IsNoted self.old self.new out.old out.new
+            (account_of self.old.listing (value_of packet.now)) }
     {
         self.note(accepted(packet), out);
         push_under(out, self.listing, packet);

@@ -31,14 +31,17 @@ pub fn difi_run<R: Threads + Sync, S: Source + Send, K: Sink + Send, G: Gate + S
 ) -> Status
     // Words that are no line, and no others, are refused, and nothing is done.
     ensures usage { result ≡ Status.Usage → (line : Line) → ¬ Asks words.now line }
-    ensures refused { ((line : Line) → ¬ Asks words.now line) → (result ≡ Status.Usage) ⊎ (result ≡ Status.Memory) }
+    ensures refused { ((line : Line) → ¬ Asks words.now line)
+        → (result ≡ Status.Usage) ⊎ (result ≡ Status.Memory) }
     ensures untouched { result ≡ Status.Usage → (source.new ≡ source.old) × (sink.new ≡ sink.old) }
 
     // Nor is where memory is missing, as all of it is taken first: but for `replay`, which takes what the
     // routes of its header need once that stands, and then took no byte behind it.
     ensures memory { result ≡ Status.Memory → sink.new ≡ sink.old }
-    ensures unread { result ≡ Status.Memory → ((line : Line) → Asks words.now line → wants_of line ≡ false) → source.new ≡ source.old }
-    ensures want { result ≡ Status.Memory → (line : Line) → Asks words.now line → DoesLine result line
+    ensures unread { result ≡ Status.Memory
+        → ((line : Line) → Asks words.now line → wants_of line ≡ false) → source.new ≡ source.old }
+    ensures want { result ≡ Status.Memory → (line : Line) → Asks words.now line
+        → DoesLine result line
         (record {
           left = S.left source.old;
           left_now = S.left source.new;
@@ -51,7 +54,8 @@ pub fn difi_run<R: Threads + Sync, S: Source + Send, K: Sink + Send, G: Gate + S
         }) }
 
     // Every other status has its cause in what the line does, with the bytes taken and the text written.
-    ensures outcome { result ≢ Status.Usage → result ≢ Status.Memory → (line : Line) × (Asks words.now line × DoesLine result line
+    ensures outcome { result ≢ Status.Usage → result ≢ Status.Memory
+        → (line : Line) × (Asks words.now line × DoesLine result line
         (record {
           left = S.left source.old;
           left_now = S.left source.new;
@@ -64,9 +68,11 @@ pub fn difi_run<R: Threads + Sync, S: Source + Send, K: Sink + Send, G: Gate + S
         })) }
 
     // Where no read and no write fails, the bytes decide, unless memory runs out.
-    ensures complete { (line : Line) → Asks words.now line → ¬ Rose (S.faults source.old) (S.faults source.new) →
+    ensures complete { (line : Line) → Asks words.now line
+        → ¬ Rose (S.faults source.old) (S.faults source.new) →
         ¬ Rose (K.faults sink.old) (K.faults sink.new) →
-        IfSome (S.left source.old) (λ bytes. (result ≡ Status.Memory) ⊎ IsLineVerdict line bytes result) }
+        IfSome (S.left source.old) (λ bytes. (result ≡ Status.Memory)
+        ⊎ IsLineVerdict line bytes result) }
 {
     let line = match line_of(alloc, words) {
         Ok(line) => line,

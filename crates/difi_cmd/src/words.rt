@@ -56,7 +56,8 @@ const MAX_BYTES: OptionRow = OptionRow {
 // `row_of`, with its line in `Line`, `line_with`, `command_of` and `numbers_of`.
 fn command_row(word: &str) -> Option<CommandRow>
     ensures found { IfSome result (λ row. word.now ≡ (row_of row.command).word) }
-    ensures options { IfSome result (λ row. option_rows row.options.now ≡ (row_of row.command).options) }
+    ensures options { IfSome result (λ row. option_rows row.options.now
+        ≡ (row_of row.command).options) }
     ensures none { IfNone result ((command : CommandName) → word.now ≢ (row_of command).word) }
 {
     let row = match word {
@@ -128,7 +129,8 @@ pub(crate) fn line_of(alloc: Global, words: &[String]) -> Result<Line, WordsFaul
 // The row of the command that the first word names.
 fn first_row(words: &[String]) -> Option<CommandRow>
     ensures found { IfSome result (λ row. NamesCommand words.now row.command) }
-    ensures options { IfSome result (λ row. option_rows row.options.now ≡ (row_of row.command).options) }
+    ensures options { IfSome result (λ row. option_rows row.options.now
+        ≡ (row_of row.command).options) }
     ensures rows { IfSome result (λ row. are_rows (option_rows row.options.now) ≡ true) }
     ensures none { IfNone result ((command : CommandName) → ¬ NamesCommand words.now command) }
 {
