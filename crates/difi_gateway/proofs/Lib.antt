@@ -28,3 +28,6 @@ pub mod OtherForm
 pub mod OpeningLemmas
 pub mod RunTexts
 pub mod ReplayLemmas
+pub mod TrueReleases
+pub mod FirstArrivals
+pub mod TrueTexts

@@ -99,7 +99,7 @@ AreBytes-front [] ys h i = omega arith
 AreBytes-front (x ∷ xs) ys h zero = h 0
 AreBytes-front (x ∷ xs) ys h (suc i) = AreBytes-front xs ys (λ k. h (suc k)) i
 
-routes_of_record : (head : RecordHead) (frames : List Frame) (bytes : List ℕ) → AreBytes bytes → IsRecord head frames bytes → AreRoutes (head.form == 2) head.routes
+pub routes_of_record : (head : RecordHead) (frames : List Frame) (bytes : List ℕ) → AreBytes bytes → IsRecord head frames bytes → AreRoutes (head.form == 2) head.routes
 routes_of_record head frames bytes fit is =
     (values_by_spelled head (record { bytes = is.header; fit = AreBytes-front is.header (is.body ++ []) (subst AreBytes is.whole fit); says = is.says })).routes
 

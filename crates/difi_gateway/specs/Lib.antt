@@ -16,3 +16,5 @@ pub mod Written
 pub mod Opened
 pub mod Replayed
 pub mod Replaying
+pub mod StreamDelivered
+pub mod TrueText

@@ -15,6 +15,7 @@ ghost use Rattle.difi_gateway.specs.Told.{RefusedItem, is_listed, runs_told, tol
 ghost use Rattle.record_run.specs.Outcome.{IsPart};
 ghost use Rattle.difi_gateway.specs.Replayed.{BeginsEach, replay_of};
 ghost use Rattle.difi_gateway.specs.Releases.{Release, copies, bound_samples, uncertain_samples, raw_packets, refused_frames, versions, part_of, all_told, out_of, AreRecordsOf, IsPartOf, IsOutOf};
+ghost use Rattle.difi_gateway.specs.TrueText.{AreTrueOf, IsTrueText};
 ghost use Rattle.difi_gateway.specs.Written.{IsWritableItem, CanBeWritten};
 
 /// A law that a proof can cite. A datagram holds one thing at most: it is larger than a packet may
@@ -177,4 +178,16 @@ pub fn forms_have_the_same_releases()
         → IsPartOf (record head { form = form }) frames bytes ↔ IsPartOf head frames bytes }
     ensures bytes { (head : RecordHead) (form : ℕ) (frames : List Frame) (bytes : List ℕ)
         → IsOutOf (record head { form = form }) frames bytes ↔ IsOutOf head frames bytes }
+{}
+
+/// A law that a proof can cite. Where the data packets and the contexts of a stream among received frames
+/// are a delivery of what a site sends, the releases of the stream for each of its ports are true, and so
+/// is the text of all releases.
+#[inline]
+pub fn releases_are_true()
+    ensures releases { (head : RecordHead) (second : Bool) (received : List Received) → AreRoutes second head.routes
+        → AreTrueOf head received (out_of head received) }
+    ensures text { (head : RecordHead) (second : Bool) (frames : List Frame) (received : List Received) (text : List ℕ)
+        → AreRoutes second head.routes → AreReceived head frames received → IsOutOf head frames text
+        → IsTrueText head received text }
 {}

@@ -3,6 +3,7 @@ ghost use Rattle.difi_io.specs.Faults.{Rose};
 ghost use Rattle.replay_form.specs.RecordGrammar.{record_grammar};
 ghost use Rattle.record_run.specs.Outcome.{IsVerdict};
 ghost use Rattle.difi_gateway.specs.Replayed.{IsReplayed};
+ghost use Rattle.difi_gateway.specs.TrueText.{IsTrueReplay};
 
 use crate::replaying::Replay;
 use difi_io::{Gate, Sink, Source};
@@ -26,6 +27,19 @@ pub fn replay_run<R: Threads + Sync, S: Source + Send, K: Sink + Send, G: Gate +
     requires { options.now.max_bytes ≤ 2 ^ 62 }
     // How it ended, with what was written; that it begins what is written of more bytes; and that streams are kept apart.
     ensures replayed { IsReplayed result options.now.max_bytes
+        (record {
+          left = S.left source.old;
+          left_now = S.left source.new;
+          held = K.held sink.old;
+          held_now = K.held sink.new;
+          reads = S.faults source.old;
+          reads_now = S.faults source.new;
+          writes = K.faults sink.old;
+          writes_now = K.faults sink.new;
+        }) }
+    // Where it is done, what was written of each stream of which the record holds a delivery is true,
+    // for each of its ports.
+    ensures truth { result ≡ Status.Done → IsTrueReplay
         (record {
           left = S.left source.old;
           left_now = S.left source.new;
