@@ -6,7 +6,7 @@ use Rattle.reorder_window.specs.Window.{answer}
 use Rattle.sample_binder.specs.Binder as binder
 use Rattle.sample_binder.specs.Binder.{Bound, number_kept, SameBinder, without_packet, without_release}
 use Rattle.sample_binder.specs.Calls.{Call, ContextCall, DataCall, context_arrivals, data_arrivals, context_entry, data_entry, outcome}
-use Rattle.sample_binder.specs.declared.turned.Turned.{Turned}
+use Rattle.sample_binder.specs.declared.arrive.Turned.{Turned}
 use Rattle.difi_gateway.specs.Told.{same_context, same_buffer, turned_of}
 use Rattle.difi_gateway.specs.State.{Gated, IsKeptFew}
 use Rattle.difi_gateway.specs.Steps.{IsCalled, IsGivenAt, IsDataGiven, turned_in, turned_with, with_back, called_with}

@@ -19,8 +19,8 @@ use Rattle.sample_binder.specs.Parts.{payload_of}
 use Rattle.sample_binder.specs.Queue.{owed}
 use Rattle.sample_binder.proofs.NextLemmas.{taken_within}
 use Rattle.sample_binder.specs.declared.out.Out.{Out}
-use Rattle.sample_binder.specs.declared.turned.Turned.{Turned}
-use Rattle.sample_binder.specs.declared.turned.Turned.TheVariants as whys
+use Rattle.sample_binder.specs.declared.arrive.Turned.{Turned}
+use Rattle.sample_binder.specs.declared.arrive.Turned.TheVariants as whys
 use Rattle.release_form.specs.declared.refusal.Refusal.{Refusal}
 use Rattle.release_form.specs.declared.refusal.Refusal.TheVariants.{NoRoute, Late, Repeat, Conflict}
 use Rattle.stream_routes.specs.Ports.{IsRouteAt, ports_at}

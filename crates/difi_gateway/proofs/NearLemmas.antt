@@ -12,8 +12,8 @@ use Rattle.replay_form.specs.declared.record_head.RecordHead.{RecordHead}
 use Rattle.sample_binder.specs.Binder.{Bound, number_kept}
 use Rattle.sample_binder.specs.declared.out.Out.{Out}
 use Rattle.sample_binder.specs.declared.out.Out.TheVariants as out
-use Rattle.sample_binder.specs.declared.run.Run.{Run}
-use Rattle.sample_binder.specs.declared.run.Run.TheVariants as run
+use Rattle.sample_binder.specs.declared.out.Run.{Run}
+use Rattle.sample_binder.specs.declared.out.Run.TheVariants as run
 use Rattle.std.specs.Option.{option_map_or}
 use Rattle.stream_routes.specs.Ports.{IsRouteAt, ports_at, ports_in}
 use Rattle.stream_routes.proofs.PortLaws.{few_ports, ports_there}

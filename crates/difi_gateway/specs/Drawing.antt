@@ -7,8 +7,8 @@ use Rattle.sample_binder.specs.Outputs.{packets_in}
 use Rattle.sample_binder.specs.Queue.{owed}
 use Rattle.sample_binder.specs.declared.out.Out.{Out}
 use Rattle.sample_binder.specs.declared.out.Out.TheVariants as out
-use Rattle.sample_binder.specs.declared.run.Run.{Run}
-use Rattle.sample_binder.specs.declared.run.Run.TheVariants as run
+use Rattle.sample_binder.specs.declared.out.Run.{Run}
+use Rattle.sample_binder.specs.declared.out.Run.TheVariants as run
 use Rattle.difi_gateway.specs.State.{Gated}
 use Rattle.difi_gateway.specs.Steps.{more}
 use Rattle.difi_gateway.specs.declared.drawn.Drawn.{Drawn}

@@ -10,8 +10,8 @@ use Rattle.sample_binder.specs.Binder as binder
 use Rattle.sample_binder.specs.Binder.{Bound, number_kept}
 use Rattle.sample_binder.specs.Calls.{Call, ContextCall, DataCall}
 use Rattle.sample_binder.specs.Queue.{owed}
-use Rattle.sample_binder.specs.declared.turned.Turned.{Turned}
-use Rattle.sample_binder.specs.declared.turned.Turned.TheVariants as turned
+use Rattle.sample_binder.specs.declared.arrive.Turned.{Turned}
+use Rattle.sample_binder.specs.declared.arrive.Turned.TheVariants as turned
 use Rattle.release_form.specs.declared.refusal.Refusal.{Refusal}
 use Rattle.release_form.specs.declared.refusal.Refusal.TheVariants.{Malformed, NoRoute, Late, Repeat, Conflict, Answer}
 use Rattle.stream_routes.specs.Ports.{IsRouteAt}

@@ -23,7 +23,7 @@ use Rattle.reorder_window.specs.Window.{AreFalling, AreBelow, accepted, number_h
 use Rattle.reorder_window.proofs.WindowLaws.{every-accepted, every-release}
 use Rattle.vrt_fields.specs.declared.limits.Limits.{Limits}
 use Rattle.sample_binder.specs.Pending.{Pending}
-use Rattle.sample_binder.specs.declared.turned.Turned.{Turned}
+use Rattle.sample_binder.specs.declared.arrive.Turned.{Turned}
 use Rattle.sample_binder.specs.Arrivals.{released_list, releases_by, Takes}
 use Rattle.sample_binder.specs.Binder.{Bound, IsBound, Follows, AreContextsSeen, ArePacketsSeen, left_events, end_events}
 use Rattle.sample_binder.specs.Calls.{Call, ContextCall, DataCall, EndCall, context_arrivals, data_arrivals, context_entry, data_entry, is_told, context_event, data_event, behind, events_by, events_from, events_of, outcome}

@@ -6,17 +6,17 @@ use Rattle.context_timeline.specs.declared.mark.Mark.{Mark}
 use Rattle.context_timeline.specs.declared.mark.Mark.TheVariants as mark
 use Rattle.context_timeline.specs.Line.{Line, IsLine, horizon_of}
 use Rattle.context_timeline.specs.Marks.{mark_in, mark_below, mark_between, last_not_after, is_below, healed, next_stamp}
-use Rattle.sample_binder.specs.declared.leaving.Leaving.{Leaving}
-use Rattle.sample_binder.specs.declared.leaving.Leaving.TheVariants as leaving
+use Rattle.sample_binder.specs.declared.give.Leaving.{Leaving}
+use Rattle.sample_binder.specs.declared.give.Leaving.TheVariants as leaving
 use Rattle.vrt_fields.specs.declared.limits.Limits.{Limits}
 use Rattle.sample_binder.specs.declared.out.Given.{Given}
 use Rattle.sample_binder.specs.declared.out.Out.{Out}
 use Rattle.sample_binder.specs.declared.out.Out.TheVariants as out
 use Rattle.sample_binder.specs.Pending.{Pending}
 use Rattle.sample_binder.specs.declared.reason.Reason.{Reason}
-use Rattle.sample_binder.specs.declared.run.Run.{Run}
-use Rattle.sample_binder.specs.declared.sampled.Sampled.{Sampled}
-use Rattle.sample_binder.specs.declared.shape.Shape.{Shape}
+use Rattle.sample_binder.specs.declared.out.Run.{Run}
+use Rattle.sample_binder.specs.declared.sampling.Sampled.{Sampled}
+use Rattle.sample_binder.specs.declared.sampling.Shape.{Shape}
 use Rattle.sample_binder.proofs.Cases.{tested}
 use Rattle.sample_binder.specs.Due.{may_leave, has_case, has_case_after, is_known, is_known_by}
 use Rattle.sample_binder.proofs.DueLaws.{may_leave-none, may_leave-next}

@@ -11,7 +11,7 @@ use Rattle.reorder_window.specs.State.{Holding}
 use Rattle.reorder_window.specs.Window.{accepted, releases}
 use Rattle.vrt_fields.specs.declared.limits.Limits.{Limits}
 use Rattle.vrt_fields.specs.Limits.{AreLimits}
-use Rattle.sample_binder.specs.declared.turned.Turned.{Turned}
+use Rattle.sample_binder.specs.declared.arrive.Turned.{Turned}
 use Rattle.sample_binder.specs.Calls.{Call, context_arrivals, data_arrivals, is_told, context_event, data_event, behind, all_releases, events_of}
 use Rattle.sample_binder.specs.Events.{Event, EndEvent}
 use Rattle.sample_binder.specs.Given.{IsContextEntry, IsDataEntry}

@@ -5,14 +5,14 @@ use Rattle.context_timeline.specs.declared.mark.Mark.TheVariants as mark
 use Rattle.context_timeline.specs.Line.{Line}
 use Rattle.context_timeline.specs.Marks.{is_below, next_stamp}
 use Rattle.vrt_time.specs.Time.{moment_of, capture_at}
-use Rattle.sample_binder.specs.declared.leaving.Leaving.{Leaving}
-use Rattle.sample_binder.specs.declared.leaving.Leaving.TheVariants as leaving
+use Rattle.sample_binder.specs.declared.give.Leaving.{Leaving}
+use Rattle.sample_binder.specs.declared.give.Leaving.TheVariants as leaving
 use Rattle.sample_binder.specs.declared.reason.Reason.{Reason}
 use Rattle.sample_binder.specs.declared.reason.Reason.TheVariants as reason
-use Rattle.sample_binder.specs.declared.run.Run.{Run}
-use Rattle.sample_binder.specs.declared.run.Run.TheVariants as run
-use Rattle.sample_binder.specs.declared.sampled.Sampled.{Sampled}
-use Rattle.sample_binder.specs.declared.shape.Shape.{Shape}
+use Rattle.sample_binder.specs.declared.out.Run.{Run}
+use Rattle.sample_binder.specs.declared.out.Run.TheVariants as run
+use Rattle.sample_binder.specs.declared.sampling.Sampled.{Sampled}
+use Rattle.sample_binder.specs.declared.sampling.Shape.{Shape}
 use Rattle.sample_binder.specs.Due.{is_closed, is_known_by}
 use Rattle.sample_binder.specs.Samples.{rate_in, size_in, number_of}
 use Rattle.sample_binder.specs.Runs.{label_at, starts, cut_from, run_at}

@@ -8,11 +8,21 @@ ghost use Rattle.sample_binder.specs.Calls.{outcome, context_entry, data_entry, 
 ghost use Rattle.sample_binder.specs.Arrivals.{releases_by, Takes};
 
 use crate::front::Front;
-use crate::turned::Turned;
 use difi_context::ContextRec;
 use reorder_window::{Arrival, HeldItem, Window, accepted_are_arrivals};
 use vrt_time::Stamp;
 use vrt_words::PacketBuf;
+
+/// Why a packet is not taken.
+#[derive(Clone, Copy, Debug, PartialEq, Eq)]
+pub enum Turned {
+    /// Its stamp is not above this one, that of a packet of its kind that was released already.
+    Late(Stamp),
+    /// The packet with its stamp that is held is the same.
+    Repeat,
+    /// The packet with its stamp that is held is another one, with this count.
+    Conflict(u8),
+}
 
 // A packet arrives at its window: what it releases, or why it is not taken.
 pub(crate) fn arrive<T: HeldItem>(

@@ -9,14 +9,11 @@ ghost use Rattle.sample_binder.specs.Given.{IsDataOf};
 ghost use Rattle.vrt_fields.specs.Limits.{AreLimits};
 ghost use Rattle.sample_binder.specs.Binder.{StandsFor, SameBinder, number_kept, without_packet, without_release};
 
-use crate::arrive::{arrive_context, arrive_data};
-use crate::binding::Binding;
+use crate::arrive::{Turned, arrive_context, arrive_data};
+use crate::binding::{Binding, give_context, give_data};
 use crate::drain::{advance, go_on};
 use crate::front::{Front, front_of};
-use crate::out::{Given, Out};
-use crate::release::{give_context, give_data};
-use crate::run::Run;
-use crate::turned::Turned;
+use crate::out::{Given, Out, Run};
 use difi_context::ContextRec;
 use reorder_window::{HeldItem, Window};
 use std::alloc::Global;

@@ -1,4 +1,4 @@
-ghost use Rattle.std.specs.Prelude.{◌≡◌, ◌≢◌, ℕ, ◌+◌, ◌<◌, ◌≤◌, ◌^◌, ◌↔◌, suc, true, false, List, [], ◌∷◌, ◌++◌, Some, None, length, slice_get, IsTrue, IfOk, IfSome, IfNone, OnSome};
+ghost use Rattle.std.specs.Prelude.{◌≡◌, ◌≢◌, ℕ, ◌+◌, ◌<◌, ◌≤◌, ◌^◌, ◌↔◌, suc, true, false, List, [], ◌∷◌, ◌++◌, Some, None, length, slice_get, IsTrue, IfOk, IfSome, IfNone, OnSome, map};
 ghost use Rattle.vrt_time.specs.Time.{moment_of};
 ghost use Rattle.difi_context.specs.Context.{IsInGrammar};
 ghost use Rattle.context_timeline.specs.Line.{line_of, with_context, timed_context, stamp_in, horizon_of};
@@ -7,19 +7,21 @@ ghost use Rattle.sample_binder.specs.Events.{Event, ContextEvent, DataEvent, End
 ghost use Rattle.sample_binder.specs.GivenOut.{out_with};
 ghost use Rattle.sample_binder.specs.Outputs.{outputs, packets_in};
 ghost use Rattle.sample_binder.specs.Queue.{owed, StandsFor, IsShape};
+ghost use Rattle.sample_binder.specs.Arrivals.{released_list};
+ghost use Rattle.sample_binder.specs.Calls.{context_event, data_event};
+ghost use Rattle.sample_binder.specs.Given.{IsLater, IsDataBytes};
+ghost use Rattle.sample_binder.specs.Released.{with_released, queue_with};
 
-use crate::give::{give_packet, give_run};
-use crate::leaving::Leaving;
-use crate::out::Given;
-use crate::pending::Pending;
-use crate::queue::decide_first;
-use crate::run::Run;
+use crate::give::{Leaving, give_packet, give_run};
+use crate::out::{Given, Run};
+use crate::queue::{Pending, decide_first};
 use context_timeline::Timeline;
 use difi_context::ContextRec;
 use std::alloc::Global;
 use std::collections::VecDeque;
 use std::marker::Model;
-use vrt_words::NoMemory;
+use vrt_time::Stamp;
+use vrt_words::{NoMemory, PacketBuf};
 
 /// The timeline of a stream, the data packets that wait for their contexts, and what is left of the
 /// one that leaves. One event a call, and what it brings is taken before the next.
@@ -172,5 +174,32 @@ impl Binding {
         ensures { result ≡ self.now.ended }
     {
         self.ended
+    }
+}
+
+// The context that a window has released, if any, is an event.
+pub(crate) fn give_context(binding: &mut Binding, released: Option<(Stamp, u8, ContextRec)>)
+    requires later { IfSome released (λ r. IsLater binding.old.line r.2) }
+    requires room { binding.old.line.added + 1 < 2 ^ 64 }
+    requires nothing { owed binding.old ≡ [] }
+    ensures state { binding.new ≡ record binding.old { line = with_released binding.old.line released } }
+    ensures history { (limits : Limits) (events : List Event) (taken : ℕ) → StandsFor binding.old limits events taken
+        → StandsFor binding.new limits (events ++ map context_event (released_list released)) taken }
+{
+    if let Some((_, lost, rec)) = released {
+        binding.context(&rec, lost);
+    }
+}
+
+// The data packet that a window has released, if any, is an event.
+pub(crate) fn give_data(binding: &mut Binding, released: Option<(Stamp, u8, PacketBuf)>)
+    requires front { IfSome released (λ r. IsDataBytes r.2.bytes) }
+    requires nothing { owed binding.old ≡ [] }
+    ensures state { binding.new ≡ record binding.old { queue = queue_with binding.old.queue released } }
+    ensures history { (limits : Limits) (events : List Event) (taken : ℕ) → StandsFor binding.old limits events taken
+        → StandsFor binding.new limits (events ++ map data_event (released_list released)) taken }
+{
+    if let Some((stamp, lost, buf)) = released {
+        binding.data(Pending::new(stamp, lost, buf));
     }
 }

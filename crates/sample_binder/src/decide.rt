@@ -7,13 +7,10 @@ ghost use Rattle.sample_binder.specs.Queue.{AreSound, IsShape};
 ghost use Rattle.sample_binder.specs.Left.{raw_of, decided, decided_bound};
 ghost use Rattle.sample_binder.specs.Samples.{rate_in, size_in, number_of};
 
-use crate::clock::is_captured_before;
-use crate::leaving::Leaving;
-use crate::pending::Pending;
+use crate::give::Leaving;
+use crate::queue::Pending;
 use crate::reason::Reason;
-use crate::sampled::Sampled;
-use crate::sampling::{rate_of, samples_of, size_of};
-use crate::shape::Shape;
+use crate::sampling::{Sampled, Shape, is_captured_before, rate_of, samples_of, size_of};
 use context_timeline::{Look, Timeline};
 use vrt_time::Stamp;
 

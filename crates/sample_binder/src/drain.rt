@@ -8,8 +8,7 @@ ghost use Rattle.sample_binder.specs.Queue.{owed};
 ghost use Rattle.sample_binder.specs.Binder.{AreContextsSeen, ArePacketsSeen, AreSeen, Follows};
 ghost use Rattle.sample_binder.specs.Drained.{MayDrain, Drains, steps_left};
 
-use crate::binding::Binding;
-use crate::release::{give_context, give_data};
+use crate::binding::{Binding, give_context, give_data};
 use difi_context::ContextRec;
 use reorder_window::{Window, accepted_are_arrivals};
 use vrt_words::PacketBuf;

@@ -3,7 +3,7 @@ ghost use Rattle.vrt_words.specs.Words.{words_of};
 ghost use Rattle.sample_binder.specs.Calls.{data_stamp, data_count, front_in, shape_in};
 ghost use Rattle.sample_binder.specs.Given.{IsDataBytes};
 
-use crate::shape::Shape;
+use crate::sampling::Shape;
 use vrt_time::Stamp;
 use vrt_words::{bits_of, word_in};
 

@@ -8,7 +8,7 @@ ghost use Rattle.vrt_fields.specs.declared.limits.Limits.{Limits};
 ghost use Rattle.sample_binder.specs.declared.out.Out.{Out};
 ghost use Rattle.sample_binder.specs.Binder.{Bound, StandsFor};
 ghost use Rattle.sample_binder.specs.Calls.{Call, ContextCall, DataCall, EndCall, context_arrivals, data_arrivals, context_entry, data_entry, is_told, behind, all_releases, events_by, events_of, outputs_of, given_by, outcome};
-ghost use Rattle.sample_binder.specs.declared.turned.Turned.{Turned};
+ghost use Rattle.sample_binder.specs.declared.arrive.Turned.{Turned};
 ghost use Rattle.sample_binder.specs.Due.{due};
 ghost use Rattle.sample_binder.specs.Events.{Event};
 ghost use Rattle.sample_binder.specs.Outputs.{outputs};

@@ -1,9 +1,14 @@
-use crate::harness::*;
-use crate::player::{Kind, Player};
-use crate::script::Step::{
+mod edges;
+mod harness;
+mod player;
+mod script;
+
+use crate::tests::harness::*;
+use crate::tests::player::{Kind, Player};
+use crate::tests::script::Step::{
     Bound, Context, ContextTurned, Data, DataTurned, End, Nothing, Packet, Raw, Uncertain,
 };
-use crate::script::{Answer, Step, Wrong, check, give_context, give_data, play, run_of};
+use crate::tests::script::{Answer, Step, Wrong, check, give_context, give_data, play, run_of};
 use crate::{Limits, Reason, Run};
 use std::alloc::Global;
 

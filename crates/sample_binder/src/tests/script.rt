@@ -1,8 +1,8 @@
 ghost use Rattle.vrt_fields.specs.Limits.{AreLimits};
 
-use crate::harness::{Payload, Time, Tuning, context, fields, moment, packet, stamp};
-use crate::player::Player;
 use crate::{Limits, Reason, Run, Turned};
+use crate::tests::harness::{Payload, Time, Tuning, context, fields, moment, packet, stamp};
+use crate::tests::player::Player;
 use std::alloc::Global;
 
 /// What a test does with a binder, and what it expects.

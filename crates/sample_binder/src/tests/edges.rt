@@ -1,12 +1,9 @@
 //! Rules at their edges: what is just so, and what just is not.
-use crate::harness::*;
-use crate::script::Step::{Bound, Context, Data, End, Nothing, Packet, Raw, Uncertain};
-use crate::script::{Step, Wrong, play};
-use crate::tests::{
-    FASTER, FOUR, LIMITS, NARROW, ONE, ONE_HELD, PLAIN, SLOW, SLOW_OTHER_GAIN, TWO,
-    across_a_context, across_a_loss, across_lost_packets,
-};
 use crate::{Limits, Reason};
+use crate::tests::{FASTER, FOUR, LIMITS, NARROW, ONE, ONE_HELD, PLAIN, SLOW, SLOW_OTHER_GAIN, TWO, across_a_context, across_a_loss, across_lost_packets};
+use crate::tests::harness::*;
+use crate::tests::script::{Step, Wrong, play};
+use crate::tests::script::Step::{Bound, Context, Data, End, Nothing, Packet, Raw, Uncertain};
 use std::alloc::Global;
 
 /// Windows of size 0, of which more contexts are kept.
