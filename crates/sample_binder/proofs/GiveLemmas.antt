@@ -22,7 +22,7 @@ use Rattle.sample_binder.specs.Due.{may_leave, has_case, has_case_after, is_know
 use Rattle.sample_binder.proofs.DueLaws.{may_leave-none, may_leave-next}
 use Rattle.sample_binder.specs.Events.{Event, packets_of, has_ended, line_after}
 use Rattle.sample_binder.specs.GivenOut.{out_with}
-use Rattle.sample_binder.specs.Left.{runs_left, runs_left_of, IsCut, IsLeaving, leaving_bound, leaving_by}
+use Rattle.sample_binder.specs.Left.{runs_left, runs_left_of, StartsStretch, IsLeaving, leaving_bound, leaving_by}
 use Rattle.sample_binder.specs.Outputs.{open_reason, packet_and_runs, outputs}
 use Rattle.sample_binder.proofs.OutputLaws.{first_of, more_wait}
 use Rattle.sample_binder.specs.Queue.{State, owed, is_first_due, queue_owes, first_decided, StandsFor, IsState, AreSound}
@@ -76,7 +76,7 @@ chosen_runs : (line : Line) (why : Reason) (samples : Sampled) (whole : Bool) �
 chosen_runs line why samples true h = h refl
 chosen_runs line why samples false h = refl
 
-chosen_leaves : (line : Line) (why : Reason) (samples : Sampled) (whole : Bool) → IsCut line why samples 0 → IsLeaving line why (cond whole (leaving.Whole samples) (leaving.Cut samples 0))
+chosen_leaves : (line : Line) (why : Reason) (samples : Sampled) (whole : Bool) → StartsStretch line why samples 0 → IsLeaving line why (cond whole (leaving.Whole samples) (leaving.Cut samples 0))
 chosen_leaves line why samples true h = tt
 chosen_leaves line why samples false h = h
 

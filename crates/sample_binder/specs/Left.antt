@@ -34,7 +34,7 @@ abbrev pub rest_from : Sampled → ℕ → Option Leaving
 rest_from samples first = if nat_lt first samples.number then Some (leaving.Cut samples first) else None
 
 -- a stretch starts at the first that is left
-pub record IsCut (line : Line) (why : Reason) (samples : Sampled) (first : ℕ) : Type 0 where
+pub record StartsStretch (line : Line) (why : Reason) (samples : Sampled) (first : ℕ) : Type 0 where
   pub sampling : HasSampling samples.fields
   pub there : first < samples.number
   pub start : starts (label_at line why samples.stamp samples.fields) first ≡ true
@@ -42,7 +42,7 @@ pub record IsCut (line : Line) (why : Reason) (samples : Sampled) (first : ℕ) 
 abbrev pub IsLeaving : Line → Reason → Leaving → Type 0
 IsLeaving line why (leaving.Raw reason stamp pad) = Unit {0}
 IsLeaving line why (leaving.Whole samples) = Unit {0}
-IsLeaving line why (leaving.Cut samples first) = IsCut line why samples first
+IsLeaving line why (leaving.Cut samples first) = StartsStretch line why samples first
 
 -- the packet as a whole
 abbrev pub raw_of : Reason → Shape → Leaving

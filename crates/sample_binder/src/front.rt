@@ -23,7 +23,7 @@ pub fn front_of(bytes: &[u8]) -> Front
 {
     Front {
         stamp: stamp_of(bytes),
-        count: count_of(bytes),
+        count: packet_count(bytes),
     }
 }
 
@@ -39,7 +39,7 @@ fn stamp_of(bytes: &[u8]) -> Stamp
 }
 
 // The packet count, modulo 16.
-fn count_of(bytes: &[u8]) -> u8
+fn packet_count(bytes: &[u8]) -> u8
     requires { IsDataBytes bytes.now }
     ensures { result ≡ data_count bytes.now }
 {

@@ -60,7 +60,8 @@ pub(crate) fn give_run(
     true
 }
 
-// Writes the next run of a packet that leaves, which is then left without it: whether it is the last.
+// Writes the next run of a packet that leaves, which is then left without it: whether it is the
+// last.
 #[inline]
 fn take_run(timeline: &Timeline, why: Reason, leaving: &mut Leaving, run: &mut Run) -> bool
     requires { IsLeaving timeline.now why leaving.old }

@@ -16,8 +16,8 @@ use std::marker::Model;
 use vrt_time::Stamp;
 use vrt_words::PacketBuf;
 
-/// A data packet that the window has released. Its size and its unused bits are read only where they
-/// count, so that its bytes stay untouched while it waits.
+/// A data packet that the window has released. Its size and its unused bits are read only where
+/// they count, so that its bytes stay untouched while it waits.
 #[derive(Drop)]
 pub(crate) struct Pending {
     buf: PacketBuf,
@@ -34,7 +34,11 @@ impl Model for Pending {
 
     ghost Value = { Pending };
 
-    ghost view = { λ p. record { buf = p.buf; shape = shape_in p.stamp p.buf.bytes; lost = p.lost } };
+    ghost view = { λ p. record {
+      buf = p.buf;
+      shape = shape_in p.stamp p.buf.bytes;
+      lost = p.lost;
+    } };
 
     ghost invariant = { λ p. IsDataBytes p.buf.bytes };
 }

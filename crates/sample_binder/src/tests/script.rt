@@ -1,34 +1,161 @@
 ghost use Rattle.vrt_fields.specs.Limits.{AreLimits};
 
-use crate::{Limits, Reason, Run, Turned};
 use crate::tests::harness::{Payload, Time, Tuning, context, fields, moment, packet, stamp};
 use crate::tests::player::Player;
+use crate::{Limits, Reason, Run, Turned};
 use std::alloc::Global;
 
 /// What a test does with a binder, and what it expects.
 #[derive(Clone, Copy)]
 pub(crate) enum Step {
     /// A context with this time, count and CIF0 is given and taken.
-    Context(Time, u8, u32, Tuning),
-    /// The same, and it is turned away.
-    ContextTurned(Time, u8, u32, Tuning, Answer),
+    Context {
+        stamp: Time,
+        count: u8,
+        cif0: u32,
+        tuning: Tuning,
+    },
+    /// A context with this time, count and CIF0 is given and turned away.
+    ContextTurned {
+        stamp: Time,
+        count: u8,
+        cif0: u32,
+        tuning: Tuning,
+        answer: Answer,
+    },
     /// A data packet with this time and count is given and taken.
-    Data(Time, u8, Payload),
-    /// The same, and it is turned away: its buffer comes back.
-    DataTurned(Time, u8, Payload, Answer),
+    Data {
+        stamp: Time,
+        count: u8,
+        payload: Payload,
+    },
+    /// A data packet with this time and count is given and turned away: its buffer comes back.
+    DataTurned {
+        stamp: Time,
+        count: u8,
+        payload: Payload,
+        answer: Answer,
+    },
     /// The stream ends.
     End,
     /// A packet leaves, with so many lost before it.
-    Packet(u8),
-    /// Samples of a packet of this time, from this one on, so many, the first captured then, are bound
-    /// to a context with this tuning; and they have so many bits.
-    Bound(Time, u32, u32, Time, Tuning, u8),
-    /// Such samples are uncertain.
-    Uncertain(Reason, Time, u32, u32, Time, u8),
+    Packet {
+        lost: u8,
+    },
+    /// Samples of a packet of this time, from this one on, so many, the first captured then, are
+    /// bound to a context with this tuning; and they have so many bits.
+    Bound {
+        stamp: Time,
+        first: u32,
+        number: u32,
+        at: Time,
+        tuning: Tuning,
+        bits: u8,
+    },
+    /// Samples of a packet of this time, from this one on, so many, the first captured then, are
+    /// uncertain; and they have so many bits.
+    Uncertain {
+        reason: Reason,
+        stamp: Time,
+        first: u32,
+        number: u32,
+        at: Time,
+        bits: u8,
+    },
     /// The packet of this time is whole, with so many unused bits.
-    Raw(Reason, Time, u8),
+    Raw {
+        reason: Reason,
+        stamp: Time,
+        pad: u8,
+    },
     /// Nothing is due.
     Nothing,
+}
+
+pub(crate) fn context_given(stamp: Time, count: u8, cif0: u32, tuning: Tuning) -> Step {
+    Step::Context {
+        stamp,
+        count,
+        cif0,
+        tuning,
+    }
+}
+
+pub(crate) fn context_turned(
+    stamp: Time,
+    count: u8,
+    cif0: u32,
+    tuning: Tuning,
+    answer: Answer,
+) -> Step {
+    Step::ContextTurned {
+        stamp,
+        count,
+        cif0,
+        tuning,
+        answer,
+    }
+}
+
+pub(crate) fn data_given(stamp: Time, count: u8, payload: Payload) -> Step {
+    Step::Data {
+        stamp,
+        count,
+        payload,
+    }
+}
+
+pub(crate) fn data_turned(stamp: Time, count: u8, payload: Payload, answer: Answer) -> Step {
+    Step::DataTurned {
+        stamp,
+        count,
+        payload,
+        answer,
+    }
+}
+
+pub(crate) fn packet_leaves(lost: u8) -> Step {
+    Step::Packet { lost }
+}
+
+pub(crate) fn bound(
+    stamp: Time,
+    first: u32,
+    number: u32,
+    at: Time,
+    tuning: Tuning,
+    bits: u8,
+) -> Step {
+    Step::Bound {
+        stamp,
+        first,
+        number,
+        at,
+        tuning,
+        bits,
+    }
+}
+
+pub(crate) fn uncertain(
+    reason: Reason,
+    stamp: Time,
+    first: u32,
+    number: u32,
+    at: Time,
+    bits: u8,
+) -> Step {
+    Step::Uncertain {
+        reason,
+        stamp,
+        first,
+        number,
+        at,
+        bits,
+    }
+}
+
+pub(crate) fn raw(reason: Reason, stamp: Time, pad: u8) -> Step {
+    Step::Raw { reason, stamp, pad }
 }
 
 /// Why a packet is turned away.
@@ -64,16 +191,30 @@ pub(crate) fn play(alloc: Global, limits: Limits, steps: &[Step]) -> Result<(), 
 
 fn carry_out(player: &mut Player, alloc: Global, step: &Step) -> Result<(), &'static str> {
     match *step {
-        Step::Context(time, count, cif0, tuning) => {
-            give_context(player, time, count, cif0, tuning, None)
-        }
-        Step::ContextTurned(time, count, cif0, tuning, answer) => {
-            give_context(player, time, count, cif0, tuning, Some(answer))
-        }
-        Step::Data(time, count, payload) => give_data(player, alloc, time, count, &payload),
-        Step::DataTurned(time, count, payload, answer) => {
-            turn_data(player, alloc, time, count, &payload, answer)
-        }
+        Step::Context {
+            stamp,
+            count,
+            cif0,
+            tuning,
+        } => give_context(player, stamp, count, cif0, tuning, None),
+        Step::ContextTurned {
+            stamp,
+            count,
+            cif0,
+            tuning,
+            answer,
+        } => give_context(player, stamp, count, cif0, tuning, Some(answer)),
+        Step::Data {
+            stamp,
+            count,
+            payload,
+        } => give_data(player, alloc, stamp, count, &payload),
+        Step::DataTurned {
+            stamp,
+            count,
+            payload,
+            answer,
+        } => turn_data(player, alloc, stamp, count, &payload, answer),
         Step::End => player.end(),
         _ => expect(player, step),
     }
@@ -143,7 +284,7 @@ fn turned_by(answer: Answer) -> Result<Turned, &'static str> {
 // The next output is that of the step.
 fn expect(player: &mut Player, step: &Step) -> Result<(), &'static str> {
     match *step {
-        Step::Packet(lost) => check(player.packet()? == lost, "another number lost"),
+        Step::Packet { lost } => check(player.packet()? == lost, "another number lost"),
         Step::Nothing => player.nothing(),
         _ => check(player.run()? == run_of(step)?, "another run"),
     }
@@ -151,7 +292,14 @@ fn expect(player: &mut Player, step: &Step) -> Result<(), &'static str> {
 
 pub(crate) fn run_of(step: &Step) -> Result<Run, &'static str> {
     match *step {
-        Step::Bound(time, first, number, at, tuning, bits) => Ok(Run::Bound {
+        Step::Bound {
+            stamp: time,
+            first,
+            number,
+            at,
+            tuning,
+            bits,
+        } => Ok(Run::Bound {
             stamp: stamp(time)?,
             first,
             number,
@@ -159,7 +307,14 @@ pub(crate) fn run_of(step: &Step) -> Result<Run, &'static str> {
             fields: fields(tuning),
             bits,
         }),
-        Step::Uncertain(reason, time, first, number, at, bits) => Ok(Run::Uncertain {
+        Step::Uncertain {
+            reason,
+            stamp: time,
+            first,
+            number,
+            at,
+            bits,
+        } => Ok(Run::Uncertain {
             reason,
             stamp: stamp(time)?,
             first,
@@ -167,7 +322,11 @@ pub(crate) fn run_of(step: &Step) -> Result<Run, &'static str> {
             at: moment(at),
             bits,
         }),
-        Step::Raw(reason, time, pad) => Ok(Run::Raw {
+        Step::Raw {
+            reason,
+            stamp: time,
+            pad,
+        } => Ok(Run::Raw {
             reason,
             stamp: stamp(time)?,
             pad,
