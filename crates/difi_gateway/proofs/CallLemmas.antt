@@ -4,9 +4,9 @@ use Rattle.vrt_words.specs.Buffer.{Buffer}
 use Rattle.difi_context.specs.declared.context.ContextRec.{ContextRec}
 use Rattle.reorder_window.specs.Window.{answer}
 use Rattle.sample_binder.specs.Binder as binder
-use Rattle.sample_binder.specs.Binder.{Bound, number_kept, SameBinder, without_packet, without_release}
+use Rattle.sample_binder.specs.Binder.{BinderState, number_kept, SameBinder, without_packet, without_release}
 use Rattle.sample_binder.specs.Calls.{Call, ContextCall, DataCall, context_arrivals, data_arrivals, context_entry, data_entry, outcome}
-use Rattle.sample_binder.specs.declared.turned.Turned.{Turned}
+use Rattle.sample_binder.specs.declared.arrive.Turned.{Turned}
 use Rattle.difi_gateway.specs.Told.{same_context, same_buffer, turned_of}
 use Rattle.difi_gateway.specs.State.{Gated, IsKeptFew}
 use Rattle.difi_gateway.specs.Steps.{IsCalled, IsGivenAt, IsDataGiven, turned_in, turned_with, with_back, called_with}
@@ -20,7 +20,7 @@ with_release : {R : Type 0} (o : Result R (Turned × Buffer)) → turned_with (w
 with_release (Ok released) = refl
 with_release (Err e) = refl
 
-module _ (rec : ContextRec) (old new : Bound)
+module _ (rec : ContextRec) (old new : BinderState)
     (stands : (calls : List Call) (taken : ℕ) → binder.StandsFor old calls taken → binder.StandsFor new (calls ++ ContextCall rec ∷ []) taken)
     (same : SameBinder old new)
     (kept : number_kept new ≡ number_kept old) where
@@ -44,13 +44,13 @@ module _ (rec : ContextRec) (old new : Bound)
     same = same;
     stands = stands;
     answer = λ calls taken s. ap turned_in (answered calls taken s) ∙ in_packet (outcome (answer same_context old.limits.context_window (context_arrivals calls) (context_entry rec)));
-    count = omega (arith, ap (λ (b : Bound). b.given) unchanged);
+    count = omega (arith, ap (λ (b : BinderState). b.given) unchanged);
     kept = omega (arith, kept);
     few = few;
     unchanged = unchanged;
   }
 
-module _ (buf : Buffer) (old new : Bound)
+module _ (buf : Buffer) (old new : BinderState)
     (stands : (calls : List Call) (taken : ℕ) → binder.StandsFor old calls taken → binder.StandsFor new (calls ++ DataCall buf ∷ []) taken)
     (same : SameBinder old new)
     (capped : number_kept new ≤ new.limits.data_window + 1 + new.limits.pending) where
@@ -72,20 +72,20 @@ module _ (buf : Buffer) (old new : Bound)
     same = same;
     stands = stands;
     answer = λ calls taken s. ap turned_with (answered calls taken s) ∙ with_release (outcome (answer same_buffer old.limits.data_window (data_arrivals calls) (data_entry buf)));
-    count = omega (arith, ap (λ (b : Bound). b.given) unchanged);
-    kept = omega (arith, ap (λ (b : Bound). number_kept b) unchanged);
+    count = omega (arith, ap (λ (b : BinderState). b.given) unchanged);
+    kept = omega (arith, ap (λ (b : BinderState). number_kept b) unchanged);
     few = λ f. capped;
     unchanged = unchanged;
   }
 
 -- the buffers and the memory for them are as is said
-same_gate : (old : Gated) (binders : List Bound) (empty buffers : List Buffer) (capacity : ℕ) → empty ≡ buffers → capacity ≡ old.capacity
+same_gate : (old : Gated) (binders : List BinderState) (empty buffers : List Buffer) (capacity : ℕ) → empty ≡ buffers → capacity ≡ old.capacity
     → record old { binders = binders; empty = empty; capacity = capacity } ≡ record old { binders = binders; empty = buffers }
 same_gate old binders empty buffers capacity e f =
     ap (λ (l : List Buffer). record old { binders = binders; empty = l; capacity = capacity }) e
     ∙ ap (λ n. record old { binders = binders; empty = buffers; capacity = n }) f
 
-module _ (stream : ℕ) (bytes : List ℕ) (port : ℕ) (old new : Gated) (front : List Buffer) (last buf : Buffer) (turned : Option Turned) (index : ℕ) (was now : Bound) where
+module _ (stream : ℕ) (bytes : List ℕ) (port : ℕ) (old new : Gated) (front : List Buffer) (last buf : Buffer) (turned : Option Turned) (index : ℕ) (was now : BinderState) where
   pub data_given : buf ≡ record last { bytes = bytes } → old.empty ≡ front ++ last ∷ [] → IsRouteAt old.routes stream index → slice_get old.binders index ≡ Some was
       → IsCalled (DataCall buf) turned was now
       → (empty : List Buffer) (capacity : ℕ) → empty ≡ with_back front turned buf → capacity ≡ old.capacity

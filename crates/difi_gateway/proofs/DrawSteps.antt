@@ -14,13 +14,13 @@ use Rattle.replay_form.specs.declared.record_head.RecordHead.{RecordHead}
 use Rattle.stream_routes.specs.Ports.{IsRouteAt, ports_at}
 use Rattle.stream_routes.proofs.PortLaws.{routes_of_form_2, some_ports, ports_there}
 use Rattle.sample_binder.specs.Binder as binder
-use Rattle.sample_binder.specs.Binder.{Bound, number_kept}
+use Rattle.sample_binder.specs.Binder.{BinderState, number_kept}
 use Rattle.sample_binder.specs.Calls.{Call, outputs_of}
 use Rattle.sample_binder.specs.Parts.{payload_of}
 use Rattle.sample_binder.specs.declared.out.Out.{Out}
 use Rattle.sample_binder.specs.declared.out.Out.TheVariants as out
-use Rattle.sample_binder.specs.declared.run.Run.{Run}
-use Rattle.sample_binder.specs.declared.run.Run.TheVariants as run
+use Rattle.sample_binder.specs.declared.out.Run.{Run}
+use Rattle.sample_binder.specs.declared.out.Run.TheVariants as run
 use Rattle.difi_gateway.specs.Calls.{calls}
 use Rattle.difi_gateway.specs.Contents.{Received}
 use Rattle.difi_gateway.specs.Told.{Item, RunItem, runs_from}
@@ -116,7 +116,7 @@ counts_on n begun stream lost (run.Raw reason stamp pad) payload =
     rw (sum_by_push refused_frames begun item) rw (sum_by_push versions begun item) (grind arith)
 
 module _ (old : Gated) (head : RecordHead) (received : List Received) (ended : Bool) (given : ℕ) (st : StandsFor old head received ended given)
-    (index : ℕ) (was now : Bound) (drawn : is_drawn old.stage index) (there : slice_get old.binders index ≡ Some was) where
+    (index : ℕ) (was now : BinderState) (drawn : is_drawn old.stage index) (there : slice_get old.binders index ≡ Some was) where
   within : index < length old.binders
   within = slice_get_within old.binders index was there
 
@@ -132,17 +132,17 @@ module _ (old : Gated) (head : RecordHead) (received : List Received) (ended : B
   abbrev outs : List Out
   outs = outputs_of head.limits cs
 
-  abbrev binders : List Bound
+  abbrev binders : List BinderState
   binders = slice_set old.binders index now
 
   stream : IsStream head cs st.left was
   stream = (st.binders.each index route_is.route was route_is.there there).drawn drawn
 
-  at_index : (left : List Out) → IsStream head cs left now → (route : Route) (bound : Bound) → slice_get head.routes index ≡ Some route → slice_get binders index ≡ Some bound
+  at_index : (left : List Out) → IsStream head cs left now → (route : Route) (bound : BinderState) → slice_get head.routes index ≡ Some route → slice_get binders index ≡ Some bound
       → IsBinder head received old.stage left index route bound
   at_index left s route bound r b =
       subst (λ (x : Route). IsBinder head received old.stage left index x bound) (same_Some _ _ (sym route_is.there ∙ r))
-      (subst (λ (x : Bound). IsBinder head received old.stage left index route_is.route x) (same_Some _ _ (sym (get_set_same old.binders index now within) ∙ b))
+      (subst (λ (x : BinderState). IsBinder head received old.stage left index route_is.route x) (same_Some _ _ (sym (get_set_same old.binders index now within) ∙ b))
       (record { drawn = λ d. s; idle = λ no. absurd (no drawn) }))
 
   there_within : index < length head.routes
@@ -195,13 +195,13 @@ module _ (old : Gated) (head : RecordHead) (received : List Received) (ended : B
     kept_sum =
         let at = get_or_from_slice_get old.binders index was was there in
         let sums = sum_by-set number_kept old.binders index now was within in
-        omega (arith, by.kept, sums, ap (λ (b : Bound). number_kept b) at)
+        omega (arith, by.kept, sums, ap (λ (b : BinderState). number_kept b) at)
 
     -- nothing was drawn
     pub nothing_drawn : o ≡ None → record old { binders = binders } ≡ old
     nothing_drawn e =
         let same : now ≡ was = subst (λ (g : Option Out). IfNone g (now ≡ was)) e by.none in
-        ap (λ (l : List Bound). record old { binders = l }) (ap (slice_set old.binders index) same ∙ set_as_was old.binders index was there)
+        ap (λ (l : List BinderState). record old { binders = l }) (ap (slice_set old.binders index) same ∙ set_as_was old.binders index was there)
 
     module _ (quiet : old.telling ≡ telling.Nothing) where
       no_copies : (gate : Gated) → gate.telling ≡ telling.Nothing → copies_left gate ≡ []

@@ -10,7 +10,7 @@ use Rattle.vrt_fields.specs.declared.limits.Limits.{Limits}
 use Rattle.vrt_fields.specs.declared.route.Route.{Route}
 use Rattle.replay_form.specs.declared.record_head.RecordHead.{RecordHead}
 use Rattle.stream_routes.specs.Ports.{IsRouteAt}
-use Rattle.sample_binder.specs.Binder.{Bound, number_kept}
+use Rattle.sample_binder.specs.Binder.{BinderState, number_kept}
 use Rattle.sample_binder.specs.Calls.{Call, EndCall, outputs_of, given_by}
 use Rattle.sample_binder.specs.Parts.{payload_of}
 use Rattle.sample_binder.specs.Queue.{owed}
@@ -41,7 +41,7 @@ pub record IsBetween (old : Gated) (head : RecordHead) (received : List Received
   pub taken : old.taken ≡ sum_by bytes_taken received
   pub quiet : old.telling ≡ telling.Nothing
   pub all : length old.binders ≡ length head.routes
-  pub each : (k : ℕ) (route : Route) (bound : Bound) → slice_get head.routes k ≡ Some route → slice_get old.binders k ≡ Some bound
+  pub each : (k : ℕ) (route : Route) (bound : BinderState) → slice_get head.routes k ≡ Some route → slice_get old.binders k ≡ Some bound
       → IsIdle head (calls_with (nat_lt k n) (calls head route.stream received)) bound
   pub buffers : AreBuffers head old.binders old.empty
   pub begun : List Item
@@ -58,7 +58,7 @@ module _ (old : Gated) (head : RecordHead) (received : List Received) (given n :
   nothing_placed = subst (λ (t : Telling). IsPlaced old.routes t old.place) (sym s.quiet) tt
 
   -- with these binders, of which this one gives
-  module _ (binders : List Bound) (left : List Out) where
+  module _ (binders : List BinderState) (left : List Out) where
     abbrev ending : Gated
     ending = record old { binders = binders; stage = stages.Ending n }
 
@@ -106,7 +106,7 @@ module _ (old : Gated) (head : RecordHead) (received : List Received) (given n :
       (ap (told_at_end_of head received) (drop_all (n + 1) head.routes (omega (arith, past, s.all)) ∙ sym (drop_all n head.routes (omega (arith, past, s.all)))))
 
   -- at a route
-  module _ (was now : Bound) (there : slice_get old.binders n ≡ Some was) (ended : IsEnded was now) where
+  module _ (was now : BinderState) (there : slice_get old.binders n ≡ Some was) (ended : IsEnded was now) where
     within : n < length old.binders
     within = slice_get_within old.binders n was there
 
@@ -144,14 +144,14 @@ module _ (old : Gated) (head : RecordHead) (received : List Received) (given n :
       left_is = refl;
     }
 
-    abbrev binders : List Bound
+    abbrev binders : List BinderState
     binders = slice_set old.binders n now
 
-    at_index : (route : Route) (bound : Bound) → slice_get head.routes n ≡ Some route → slice_get binders n ≡ Some bound → IsBinder head received (stages.Ending n) left n route bound
+    at_index : (route : Route) (bound : BinderState) → slice_get head.routes n ≡ Some route → slice_get binders n ≡ Some bound → IsBinder head received (stages.Ending n) left n route bound
     at_index route bound r b =
         let on : nat_lt n (n + 1) ≡ true = grind (arith, nat_tests) in
         subst (λ (x : Route). IsBinder head received (stages.Ending n) left n x bound) (same_Some _ _ (sym route_is.there ∙ r))
-        (subst (λ (x : Bound). IsBinder head received (stages.Ending n) left n route_is.route x) (same_Some _ _ (sym (get_set_same old.binders n now within) ∙ b))
+        (subst (λ (x : BinderState). IsBinder head received (stages.Ending n) left n route_is.route x) (same_Some _ _ (sym (get_set_same old.binders n now within) ∙ b))
         (record { drawn = λ d. subst (λ f. IsStream head (calls_with f cs) left now) (sym on) stream_now; idle = λ no. absurd (no refl) }))
 
     there_within : n < length old.binders
@@ -177,7 +177,7 @@ module _ (old : Gated) (head : RecordHead) (received : List Received) (given n :
     buffers_now =
         let at = get_or_from_slice_get old.binders n was was there in
         let sums = sum_by-set number_kept old.binders n now was within in
-        record { all = omega (arith, ended.kept, sums, ap (λ (b : Bound). number_kept b) at, s.buffers.all); rooms = s.buffers.rooms }
+        record { all = omega (arith, ended.kept, sums, ap (λ (b : BinderState). number_kept b) at, s.buffers.all); rooms = s.buffers.rooms }
 
     -- the outputs that the end adds begin with a packet
     runs_are : (lost : ℕ) (payload : List ℕ) → runs_from (stream_at old.routes n) lost payload left ≡ runs_told route_is.route.stream (given_by head.limits cs EndCall)
@@ -240,12 +240,12 @@ module _ (old : Gated) (head : RecordHead) (received : List Received) (given : �
     items_are : items_left head received old st.left old.stage ≡ told_at_end_of head received (drop (i + 1) head.routes)
     items_are = ap (λ (g : Stage). items_left head received old st.left g) ended ∙ ap (λ l. items_left head received old l (stages.Ending i)) s.none
 
-    idle_at : (k : ℕ) (route : Route) (bound : Bound) → slice_get old.binders k ≡ Some bound → IsBinder head received (stages.Ending i) [] k route bound
+    idle_at : (k : ℕ) (route : Route) (bound : BinderState) → slice_get old.binders k ≡ Some bound → IsBinder head received (stages.Ending i) [] k route bound
         → IsIdle head (calls_with (nat_lt k (i + 1)) (calls head route.stream received)) bound
     idle_at k route bound b is = elim (cases_eq k i) [
       | inl same ↦
           let one : s.was ≡ bound = same_Some _ _ (sym s.there ∙ subst (λ n. slice_get old.binders n ≡ Some bound) same b) in
-          record { stream = is.drawn same; nothing = ap (λ (x : Bound). owed x.state) (sym one) ∙ s.nothing }
+          record { stream = is.drawn same; nothing = ap (λ (x : BinderState). owed x.state) (sym one) ∙ s.nothing }
       | inr other ↦ is.idle other
     ]
 

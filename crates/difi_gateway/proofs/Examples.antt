@@ -5,7 +5,7 @@ use Rattle.difi_packet.specs.Packet.{DataValue}
 use Rattle.replay_form.specs.FrameFields.{Frame}
 use Rattle.sample_binder.specs.Parts.{payload_of}
 use Rattle.sample_binder.specs.declared.out.Out.TheVariants as out
-use Rattle.sample_binder.specs.declared.run.Run.{Run}
+use Rattle.sample_binder.specs.declared.out.Run.{Run}
 use Rattle.difi_gateway.specs.Contents.{Content, NoPacket, Larger, Holds, Received}
 use Rattle.difi_gateway.specs.Told.{RunItem, VersionItem, runs_told}
 use Rattle.difi_gateway.specs.Isolation.{runs_of_stream, only}

@@ -20,10 +20,10 @@ use Rattle.sample_binder.specs.Given.{IsDataOf}
 use Rattle.sample_binder.specs.Parts.{IsCallOf, AreCallsOf, payload_of, counted_of, counted_told, payload_bytes}
 use Rattle.sample_binder.specs.declared.out.Out.{Out}
 use Rattle.sample_binder.specs.declared.out.Out.TheVariants as out
-use Rattle.sample_binder.specs.declared.run.Run.{Run}
-use Rattle.sample_binder.specs.declared.run.Run.TheVariants as run
-use Rattle.sample_binder.specs.declared.turned.Turned.{Turned}
-use Rattle.sample_binder.specs.declared.turned.Turned.TheVariants as turned
+use Rattle.sample_binder.specs.declared.out.Run.{Run}
+use Rattle.sample_binder.specs.declared.out.Run.TheVariants as run
+use Rattle.sample_binder.specs.declared.arrive.Turned.{Turned}
+use Rattle.sample_binder.specs.declared.arrive.Turned.TheVariants as turned
 use Rattle.sample_binder.proofs.BinderLemmas.{is_told-append}
 use Rattle.sample_binder.proofs.EventLemmas.{every-append}
 use Rattle.sample_binder.proofs.TotalLemmas.{counted_ending}

@@ -13,14 +13,14 @@ use Rattle.vrt_fields.specs.Route.{AreRoutes}
 use Rattle.vrt_fields.specs.declared.route.Route.{Route}
 use Rattle.replay_form.specs.declared.record_head.RecordHead.{RecordHead}
 use Rattle.sample_binder.specs.Binder as binder
-use Rattle.sample_binder.specs.Binder.{Bound, number_kept}
+use Rattle.sample_binder.specs.Binder.{BinderState, number_kept}
 use Rattle.sample_binder.specs.Calls.{Call, outputs_of, given_by}
 use Rattle.sample_binder.specs.Parts.{payload_of}
 use Rattle.sample_binder.specs.Queue.{owed}
 use Rattle.sample_binder.proofs.NextLemmas.{taken_within}
 use Rattle.sample_binder.specs.declared.out.Out.{Out}
-use Rattle.sample_binder.specs.declared.turned.Turned.{Turned}
-use Rattle.sample_binder.specs.declared.turned.Turned.TheVariants as whys
+use Rattle.sample_binder.specs.declared.arrive.Turned.{Turned}
+use Rattle.sample_binder.specs.declared.arrive.Turned.TheVariants as whys
 use Rattle.release_form.specs.declared.refusal.Refusal.{Refusal}
 use Rattle.release_form.specs.declared.refusal.Refusal.TheVariants.{NoRoute, Late, Repeat, Conflict}
 use Rattle.stream_routes.specs.Ports.{IsRouteAt, ports_at}
@@ -66,18 +66,18 @@ calls_more : (head : RecordHead) (stream : ℕ) (received : List Received) (r : 
 calls_more head stream received r = calls-append head stream received (r ∷ []) ∙ ap (λ l. calls head stream received ++ l) (append-nil (calls_by head stream r))
 
 -- every binder is idle after these frames
-pub record AreIdle (head : RecordHead) (received : List Received) (binders : List Bound) : Type 0 where
+pub record AreIdle (head : RecordHead) (received : List Received) (binders : List BinderState) : Type 0 where
   pub all : length binders ≡ length head.routes
-  pub each : (k : ℕ) (route : Route) (bound : Bound) → slice_get head.routes k ≡ Some route → slice_get binders k ≡ Some bound → IsIdle head (calls head route.stream received) bound
+  pub each : (k : ℕ) (route : Route) (bound : BinderState) → slice_get head.routes k ≡ Some route → slice_get binders k ≡ Some bound → IsIdle head (calls head route.stream received) bound
 
-pub waiting_idle : (head : RecordHead) (received : List Received) (left : List Out) (binders : List Bound) → AreBinders head received stages.Waiting left binders → AreIdle head received binders
+pub waiting_idle : (head : RecordHead) (received : List Received) (left : List Out) (binders : List BinderState) → AreBinders head received stages.Waiting left binders → AreIdle head received binders
 waiting_idle head received left binders are = record {
   all = are.all;
   each = λ k route bound p q.
       subst (λ b. IsIdle head (calls_with b (calls head route.stream received)) bound) (below_none k) ((are.each k route bound p q).idle (λ x. x));
 }
 
-pub idle_waiting : (head : RecordHead) (received : List Received) (binders : List Bound) → AreIdle head received binders → AreBinders head received stages.Waiting [] binders
+pub idle_waiting : (head : RecordHead) (received : List Received) (binders : List BinderState) → AreIdle head received binders → AreBinders head received stages.Waiting [] binders
 idle_waiting head received binders are = record {
   all = are.all;
   none_behind = tt;
@@ -88,9 +88,9 @@ idle_waiting head received binders are = record {
 }
 
 -- the one of this index gives these outputs, and all others are idle
-pub one_draws : (head : RecordHead) (received : List Received) (index : ℕ) (left : List Out) (binders : List Bound) → length binders ≡ length head.routes
-    → ((k : ℕ) (route : Route) (bound : Bound) → k ≡ index → slice_get head.routes k ≡ Some route → slice_get binders k ≡ Some bound → IsStream head (calls head route.stream received) left bound)
-    → ((k : ℕ) (route : Route) (bound : Bound) → k ≢ index → slice_get head.routes k ≡ Some route → slice_get binders k ≡ Some bound → IsIdle head (calls head route.stream received) bound)
+pub one_draws : (head : RecordHead) (received : List Received) (index : ℕ) (left : List Out) (binders : List BinderState) → length binders ≡ length head.routes
+    → ((k : ℕ) (route : Route) (bound : BinderState) → k ≡ index → slice_get head.routes k ≡ Some route → slice_get binders k ≡ Some bound → IsStream head (calls head route.stream received) left bound)
+    → ((k : ℕ) (route : Route) (bound : BinderState) → k ≢ index → slice_get head.routes k ≡ Some route → slice_get binders k ≡ Some bound → IsIdle head (calls head route.stream received) bound)
     → AreBinders head received (stages.Drawing index) left binders
 one_draws head received index left binders all here others = record {
   all = all;
@@ -118,14 +118,14 @@ module _ (gate : Gated) (head : RecordHead) (received : List Received) (given : 
         subst (λ cs. IsIdle head cs bound) (sym (calls_more head route.stream received r ∙ ap (λ l. calls head route.stream received ++ l) (none k route p) ∙ append-nil _)) (idle_now.each k route bound p q);
   }
 
-  abbrev changed : List Bound → List Buffer → Gated
+  abbrev changed : List BinderState → List Buffer → Gated
   changed binders empty = record gate { binders = binders; empty = empty }
 
-  is_of_changed : (binders : List Bound) (empty : List Buffer) → IsOf head (changed binders empty)
+  is_of_changed : (binders : List BinderState) (empty : List Buffer) → IsOf head (changed binders empty)
   is_of_changed binders empty = record { values = st.is_of.values; profile = st.is_of.profile; max_words = st.is_of.max_words; routes = st.is_of.routes }
 
   -- it is refused
-  pub refused_next : (binders : List Bound) (empty : List Buffer) (port : ℕ) (refusal : Refusal) (detail : ℕ) (stamp : Option TimeStamp)
+  pub refused_next : (binders : List BinderState) (empty : List Buffer) (port : ℕ) (refusal : Refusal) (detail : ℕ) (stamp : Option TimeStamp)
       → told_by head received r ≡ RefusedItem (length received + 1) port refusal detail stamp ∷ []
       → AreIdle head (received ++ r ∷ []) binders → AreBuffers head binders empty
       → IsNext gate head received given st rest r (refused (changed binders empty) port (length r.frame.datagram) refusal detail stamp) []
@@ -212,7 +212,7 @@ split_all P [] last all = (tt, all.0)
 split_all P (first ∷ front) last all = let later = split_all P front last all.1 in ((all.0, later.0), later.1)
 
 -- the last one is filled with other bytes
-refilled : (head : RecordHead) (binders : List Bound) (empty front : List Buffer) (last : Buffer) (bytes : List ℕ) → AreBuffers head binders empty → empty ≡ front ++ last ∷ []
+refilled : (head : RecordHead) (binders : List BinderState) (empty front : List Buffer) (last : Buffer) (bytes : List ℕ) → AreBuffers head binders empty → empty ≡ front ++ last ∷ []
     → AreBuffers head binders (front ++ record last { bytes = bytes } ∷ [])
 refilled head binders empty front last bytes are e =
     let rooms = split_all (HasRoom head.max_words) front last (subst (AllByRecursion (HasRoom head.max_words)) e are.rooms) in
@@ -293,12 +293,12 @@ module _ (gate : Gated) (head : RecordHead) (received : List Received) (given : 
     (call : Call) (stream : ℕ)
     (packet : IsPacketOf head received r stream (called head.limits (length received + 1) r.frame.port stream (calls head stream received) call) (call ∷ []))
     (index : ℕ) (route : IsRouteAt head.routes stream index)
-    (was now : Bound) (there : slice_get gate.binders index ≡ Some was) (turned : Option Turned) (is : IsCalled call turned was now)
+    (was now : BinderState) (there : slice_get gate.binders index ≡ Some was) (turned : Option Turned) (is : IsCalled call turned was now)
     (buffers : List Buffer) (number : length buffers + kept_by call turned ≡ length gate.empty) (rooms : AllByRecursion (HasRoom head.max_words) buffers) where
   abbrev before : List Call
   before = calls head stream received
 
-  abbrev binders : List Bound
+  abbrev binders : List BinderState
   binders = slice_set gate.binders index now
 
   among : index < length gate.binders
@@ -340,7 +340,7 @@ module _ (gate : Gated) (head : RecordHead) (received : List Received) (given : 
     left_is = ap (λ n. drop n (outputs_of head.limits (before ++ call ∷ []))) (sym all_taken) ∙ ap (λ cs. drop was_idle.stream.taken (outputs_of head.limits cs)) (sym calls_now);
   }
 
-  others : (k : ℕ) (other : Route) (bound : Bound) → k ≢ index → slice_get head.routes k ≡ Some other → slice_get binders k ≡ Some bound → IsIdle head (calls head other.stream (received ++ r ∷ [])) bound
+  others : (k : ℕ) (other : Route) (bound : BinderState) → k ≢ index → slice_get head.routes k ≡ Some other → slice_get binders k ≡ Some bound → IsIdle head (calls head other.stream (received ++ r ∷ [])) bound
   others k other bound apart p q =
       let valid = routes_valid gate head received given st rest r content fit in
       let none : calls_by head other.stream r ≡ [] =
@@ -353,7 +353,7 @@ module _ (gate : Gated) (head : RecordHead) (received : List Received) (given : 
   all_binders = length-set gate.binders index now ∙ (idle_now gate head received given st rest r content fit).all
 
   -- the binder of the route is the one of its stream
-  here_is : (k : ℕ) (other : Route) (bound : Bound) → k ≡ index → slice_get head.routes k ≡ Some other → slice_get binders k ≡ Some bound → (other.stream ≡ stream) × (bound ≡ now)
+  here_is : (k : ℕ) (other : Route) (bound : BinderState) → k ≡ index → slice_get head.routes k ≡ Some other → slice_get binders k ≡ Some bound → (other.stream ≡ stream) × (bound ≡ now)
   here_is k other bound e p q = (
     ap (λ (o : Route). o.stream) (sym (get_or_from_slice_get head.routes k other other p)
         ∙ get_or_from_slice_get head.routes k route.route other (subst (λ n. slice_get head.routes n ≡ Some route.route) (sym e) route.there))
@@ -378,15 +378,15 @@ module _ (gate : Gated) (head : RecordHead) (received : List Received) (given : 
         turned_changes_nothing head.limits before [] call why (sym turned_is ∙ turned_why) ∙ ap (outputs_of head.limits) (append-nil before) in
         ap (drop (length (outputs_of head.limits before))) same ∙ drop_all (length (outputs_of head.limits before)) (outputs_of head.limits before) (omega arith)
 
-    here_or_not : (k : ℕ) (other : Route) (bound : Bound) → slice_get head.routes k ≡ Some other → slice_get binders k ≡ Some bound → (k ≡ index) ⊎ (k ≢ index)
+    here_or_not : (k : ℕ) (other : Route) (bound : BinderState) → slice_get head.routes k ≡ Some other → slice_get binders k ≡ Some bound → (k ≡ index) ⊎ (k ≢ index)
         → IsIdle head (calls head other.stream (received ++ r ∷ [])) bound
     here_or_not k other bound p q (inl e) =
         let here = here_is k other bound e p q in
         subst (λ s. IsIdle head (calls head s (received ++ r ∷ [])) bound) (sym here.0)
-        (subst (λ (b : Bound). IsIdle head (calls head stream (received ++ r ∷ [])) b) (sym here.1)
+        (subst (λ (b : BinderState). IsIdle head (calls head stream (received ++ r ∷ [])) b) (sym here.1)
         (record {
           stream = subst (λ outs. IsStream head (calls head stream (received ++ r ∷ [])) outs now) nothing_given now_stream;
-          nothing = ap (λ (b : Bound). owed b.state) unchanged ∙ was_idle.nothing;
+          nothing = ap (λ (b : BinderState). owed b.state) unchanged ∙ was_idle.nothing;
         }))
     here_or_not k other bound p q (inr apart) = others k other bound apart p q
 
@@ -426,7 +426,7 @@ module _ (gate : Gated) (head : RecordHead) (received : List Received) (given : 
             (λ k other bound is_index p q.
             let here = here_is k other bound is_index p q in
             subst (λ s. IsStream head (calls head s (received ++ r ∷ [])) left bound) (sym here.0)
-            (subst (λ (b : Bound). IsStream head (calls head stream (received ++ r ∷ [])) left b) (sym here.1) now_stream))
+            (subst (λ (b : BinderState). IsStream head (calls head stream (received ++ r ∷ [])) left b) (sym here.1) now_stream))
             (λ k other bound apart p q. others k other bound apart p q);
         buffers = kept_buffers;
         told_is =

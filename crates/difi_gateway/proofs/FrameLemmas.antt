@@ -13,7 +13,7 @@ use Rattle.replay_form.specs.FrameFields.{Frame}
 use Rattle.replay_form.specs.declared.record_head.RecordHead.{RecordHead}
 use Rattle.sample_binder.specs.Calls.{Call, ContextCall, DataCall, given_by}
 use Rattle.sample_binder.specs.declared.out.Out.{Out}
-use Rattle.sample_binder.specs.declared.turned.Turned.{Turned}
+use Rattle.sample_binder.specs.declared.arrive.Turned.{Turned}
 use Rattle.stream_routes.specs.Ports.{IsRouteAt}
 use Rattle.difi_gateway.specs.Contents.{Content, Holds, Received, IsReceived}
 use Rattle.difi_gateway.specs.Calls.{buffer_of, calls}

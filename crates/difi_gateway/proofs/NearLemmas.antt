@@ -9,11 +9,11 @@ use Rattle.std.proofs.lemmas.Option.{slice_get_within, get_or_from_slice_get}
 use Rattle.vrt_fields.specs.declared.route.Route.{Route}
 use Rattle.vrt_fields.specs.Route.{AreRoutes}
 use Rattle.replay_form.specs.declared.record_head.RecordHead.{RecordHead}
-use Rattle.sample_binder.specs.Binder.{Bound, number_kept}
+use Rattle.sample_binder.specs.Binder.{BinderState, number_kept}
 use Rattle.sample_binder.specs.declared.out.Out.{Out}
 use Rattle.sample_binder.specs.declared.out.Out.TheVariants as out
-use Rattle.sample_binder.specs.declared.run.Run.{Run}
-use Rattle.sample_binder.specs.declared.run.Run.TheVariants as run
+use Rattle.sample_binder.specs.declared.out.Run.{Run}
+use Rattle.sample_binder.specs.declared.out.Run.TheVariants as run
 use Rattle.std.specs.Option.{option_map_or}
 use Rattle.stream_routes.specs.Ports.{IsRouteAt, ports_at, ports_in}
 use Rattle.stream_routes.proofs.PortLaws.{few_ports, ports_there}
@@ -42,12 +42,12 @@ use Rattle.difi_gateway.proofs.WritableItems.{all_writable}
 -- ---- steps
 
 -- what the binders keep, where one of them is another
-sum_now : (binders : List Bound) (index : ℕ) (was now : Bound) → slice_get binders index ≡ Some was
+sum_now : (binders : List BinderState) (index : ℕ) (was now : BinderState) → slice_get binders index ≡ Some was
     → sum_by number_kept (slice_set binders index now) + number_kept was ≡ sum_by number_kept binders + number_kept now
 sum_now binders index was now there =
     omega (arith, sum_by-set number_kept binders index now was (slice_get_within binders index was there), ap number_kept (get_or_from_slice_get binders index was was there))
 
-module _ (old : Gated) (index : ℕ) (was now : Bound) (there : slice_get old.binders index ≡ Some was) (quiet : old.telling ≡ telling.Nothing) where
+module _ (old : Gated) (index : ℕ) (was now : BinderState) (there : slice_get old.binders index ≡ Some was) (quiet : old.telling ≡ telling.Nothing) where
   abbrev mid : Gated
   mid = record old { binders = slice_set old.binders index now }
 
@@ -76,7 +76,7 @@ gone_nearer old new index (stages.Ending i) e d lt (inr behind) =
     omega (arith, then_, before, d, lt)
 gone_nearer old new index stages.Over e d lt gone = absurd d
 
-drawn_nearer : (result : Drawn) (given : Option Out) (old : Gated) (index : ℕ) (was now : Bound) → slice_get old.binders index ≡ Some was → old.telling ≡ telling.Nothing
+drawn_nearer : (result : Drawn) (given : Option Out) (old : Gated) (index : ℕ) (was now : BinderState) → slice_get old.binders index ≡ Some was → old.telling ≡ telling.Nothing
     → IsGivenBy given was now → result ≡ drawn_as given → result ≢ drawn.Nothing → steps_left (drawn_from (record old { binders = slice_set old.binders index now }) index given) < steps_left old
 drawn_nearer result None old index was now there quiet by e some = absurd (some e)
 drawn_nearer result (Some (out.Packet buf lost)) old index was now there quiet by e some = packet_nearer old index was now there quiet buf lost by
@@ -198,7 +198,7 @@ module _ (old new : Gated) (head : RecordHead) (received : List Received) (ended
     by_stage (stages.Ending i) d = refl
     by_stage stages.Over d = absurd d
 
-  run_more : (r : Run) (binders : List Bound) → new ≡ drawn_from (record old { binders = binders }) index (Some (out.Run r)) → records_owed new ≤ records_owed old
+  run_more : (r : Run) (binders : List BinderState) → new ≡ drawn_from (record old { binders = binders }) index (Some (out.Run r)) → records_owed new ≤ records_owed old
   run_more r binders e =
       let other = drawn_from (record old { binders = binders }) index (Some (out.Run r)) in
       let item = RunItem (stream_at old.routes index) old.lost r (payload_of (packet_in old.empty)) in
@@ -211,7 +211,7 @@ module _ (old new : Gated) (head : RecordHead) (received : List Received) (ended
       let copies : length (ports_at old.routes index) ≤ 4 =
       few_copies old.routes index (subst (AreRoutes true) (sym st.is_of.routes) (form_2 (head.form == 2) head.routes st.is_of.values.routes)) in
       omega (arith, before, owed, counts, some, fit, taken, small, copies) where
-        owed_of : {binders : List Bound} → new ≡ drawn_from (record old { binders = binders }) index (Some (out.Run r))
+        owed_of : {binders : List BinderState} → new ≡ drawn_from (record old { binders = binders }) index (Some (out.Run r))
             → records_owed new ≡ 1 + (8 * (2 ^ 70 - sum new.counts) + (length (ports_at old.routes index) - 0))
         owed_of {binders} e = subst (λ (g : Gated). records_owed g ≡ 1 + (8 * (2 ^ 70 - sum g.counts) + (length (ports_at old.routes index) - 0))) (sym e) refl
 
@@ -228,7 +228,7 @@ module _ (old new : Gated) (head : RecordHead) (received : List Received) (ended
       omega (arith, ap records_owed behind.after, ap (λ t. owed_by_telling (stages.Ending (i + 1)) t (may_be_told ending)) quiet, before)
   gone_more stages.Over e gone = omega (arith, ap records_owed gone)
 
-  drawn_more : (given' : Option Out) (binders : List Bound) → new ≡ drawn_from (record old { binders = binders }) index given' → records_owed new ≤ records_owed old
+  drawn_more : (given' : Option Out) (binders : List BinderState) → new ≡ drawn_from (record old { binders = binders }) index given' → records_owed new ≤ records_owed old
   drawn_more None binders e = omega (arith, ap records_owed e)
   drawn_more (Some (out.Packet buf lost)) binders e = omega (arith, ap records_owed e)
   drawn_more (Some (out.Run r)) binders e = run_more r binders e

@@ -10,7 +10,7 @@ use Rattle.replay_form.specs.FrameFields.{Frame}
 use Rattle.replay_form.specs.declared.record_head.RecordHead.{RecordHead}
 use Rattle.release_form.specs.declared.shown.Shown.TheVariants as shown
 use Rattle.sample_binder.specs.Calls.{ContextCall, DataCall, EndCall, outputs_of}
-use Rattle.sample_binder.specs.declared.run.Run.{Run}
+use Rattle.sample_binder.specs.declared.out.Run.{Run}
 use Rattle.difi_gateway.specs.Contents.{Content, Larger, NoPacket, Holds, Received, IsReceived, frame_of, AreReceived}
 use Rattle.difi_gateway.specs.Calls.{buffer_of, calls_by, calls}
 use Rattle.difi_gateway.specs.Told.{Item, RefusedItem, RunItem, VersionItem, runs_told, is_listed, told}

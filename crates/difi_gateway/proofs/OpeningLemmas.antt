@@ -6,7 +6,7 @@ use Rattle.vrt_words.specs.Buffer.{Buffer}
 use Rattle.vrt_fields.specs.declared.route.Route.{Route}
 use Rattle.replay_form.specs.HeadValues.{AreHeadValues}
 use Rattle.replay_form.specs.declared.record_head.RecordHead.{RecordHead}
-use Rattle.sample_binder.specs.Binder.{Bound, number_kept}
+use Rattle.sample_binder.specs.Binder.{BinderState, number_kept}
 use Rattle.difi_gateway.specs.State.{Gated, IsBinder, IsIdle, IsAtHalt, IsAtRest, IsReady, IsSound, IsWithin, StandsFor, HasRoom, number_of_buffers, calls_with, is_ended}
 use Rattle.difi_gateway.specs.Opened.{IsFresh, IsOpened, opened}
 use Rattle.difi_gateway.specs.declared.stage.Stage.TheVariants as stages
@@ -17,7 +17,7 @@ all_at P (y ∷ ys) zero x all there = search rules
 all_at P (y ∷ ys) (suc k) x all there = all_at P ys k x all.1 there
 
 -- fresh binders keep nothing
-none_kept : (head : RecordHead) (binders : List Bound) → AllByRecursion (IsFresh head.profile head.limits) binders → sum_by number_kept binders ≡ 0
+none_kept : (head : RecordHead) (binders : List BinderState) → AllByRecursion (IsFresh head.profile head.limits) binders → sum_by number_kept binders ≡ 0
 none_kept head [] fresh = refl
 none_kept head (bound ∷ binders) fresh = omega (arith, sum_by-cons number_kept bound binders, fresh.0.none_kept, none_kept head binders fresh.1)
 
@@ -25,7 +25,7 @@ none_below : (k : ℕ) → nat_lt k 0 ≡ false
 none_below k = search rules
 
 -- a fresh binder had no call
-fresh_idle : (head : RecordHead) (bound : Bound) → IsFresh head.profile head.limits bound → IsIdle head [] bound
+fresh_idle : (head : RecordHead) (bound : BinderState) → IsFresh head.profile head.limits bound → IsIdle head [] bound
 fresh_idle head bound fresh = record {
   stream = record {
     profile = fresh.profile_is;
@@ -39,14 +39,14 @@ fresh_idle head bound fresh = record {
   nothing = fresh.nothing;
 }
 
-fresh_binder : (head : RecordHead) (k : ℕ) (route : Route) (bound : Bound) → IsFresh head.profile head.limits bound
+fresh_binder : (head : RecordHead) (k : ℕ) (route : Route) (bound : BinderState) → IsFresh head.profile head.limits bound
     → IsBinder head [] stages.Waiting [] k route bound
 fresh_binder head k route bound fresh = record {
   drawn = λ none. search rules;
   idle = λ undrawn. subst (λ told. IsIdle head (calls_with told []) bound) (sym (none_below k)) (fresh_idle head bound fresh);
 }
 
-fresh_stands : (head : RecordHead) (binders : List Bound) (empty : List Buffer) (capacity : ℕ) → AreHeadValues head
+fresh_stands : (head : RecordHead) (binders : List BinderState) (empty : List Buffer) (capacity : ℕ) → AreHeadValues head
     → length binders ≡ length head.routes → AllByRecursion (IsFresh head.profile head.limits) binders
     → length empty ≡ number_of_buffers head → AllByRecursion (HasRoom head.max_words) empty
     → StandsFor (opened head binders empty capacity) head [] false 0

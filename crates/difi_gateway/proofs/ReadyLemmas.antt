@@ -7,7 +7,7 @@ use Rattle.std.proofs.lemmas.Option.{slice_get_within}
 use Rattle.vrt_fields.specs.declared.limits.Limits.{Limits}
 use Rattle.vrt_fields.specs.declared.route.Route.{Route}
 use Rattle.replay_form.specs.declared.record_head.RecordHead.{RecordHead}
-use Rattle.sample_binder.specs.Binder.{Bound, number_kept}
+use Rattle.sample_binder.specs.Binder.{BinderState, number_kept}
 use Rattle.sample_binder.specs.Calls.{DataCall, ContextCall}
 use Rattle.difi_packet.specs.Packet.{DataValue, ContextValue, VersionValue, ControlValue, CancelValue, AckValue}
 use Rattle.replay_form.specs.FrameFields.{Frame}
@@ -45,7 +45,7 @@ frames_taken [] = omega arith
 frames_taken (r ∷ received) = omega (arith, frames_taken received, sum_by-cons bytes_taken r received)
 
 -- no binder keeps more than so many
-pub few_kept : (most : ℕ) (binders : List Bound) → AllByRecursion (λ (b : Bound). number_kept b ≤ most) binders → sum_by number_kept binders ≤ length binders * most
+pub few_kept : (most : ℕ) (binders : List BinderState) → AllByRecursion (λ (b : BinderState). number_kept b ≤ most) binders → sum_by number_kept binders ≤ length binders * most
 few_kept most [] all = omega arith
 few_kept most (b ∷ binders) all = omega (arith, few_kept most binders all.1, all.0, sum_by-cons number_kept b binders, step (length binders) most) where
   step : (n m : ℕ) → suc n * m ≡ m + n * m
@@ -56,7 +56,7 @@ route_by_place [] k lt = absurd (omega (arith, lt))
 route_by_place (route ∷ routes) zero lt = (route, refl)
 route_by_place (route ∷ routes) (suc k) lt = route_by_place routes k (omega (arith, lt))
 
-pub all_by_place : (P : Bound → Type 0) (binders : List Bound) → ((k : ℕ) (b : Bound) → slice_get binders k ≡ Some b → P b) → AllByRecursion P binders
+pub all_by_place : (P : BinderState → Type 0) (binders : List BinderState) → ((k : ℕ) (b : BinderState) → slice_get binders k ≡ Some b → P b) → AllByRecursion P binders
 all_by_place P [] h = tt
 all_by_place P (b ∷ binders) h = (h 0 b refl, all_by_place P binders (λ k c p. h (suc k) c p))
 
@@ -64,7 +64,7 @@ module _ (gate : Gated) (head : RecordHead) (received : List Received) (given : 
   idle_at_rest : AreIdle head received gate.binders
   idle_at_rest = waiting_idle head received st.left gate.binders (subst (λ s. AreBinders head received s st.left gate.binders) rest.stage st.binders)
 
-  route_at : (k : ℕ) (bound : Bound) → slice_get gate.binders k ≡ Some bound → (route : Route) × (slice_get head.routes k ≡ Some route)
+  route_at : (k : ℕ) (bound : BinderState) → slice_get gate.binders k ≡ Some bound → (route : Route) × (slice_get head.routes k ≡ Some route)
   route_at k bound p =
       let within : k < length head.routes = omega (arith, slice_get_within gate.binders k bound p, idle_at_rest.all) in
       route_by_place head.routes k within
@@ -75,7 +75,7 @@ module _ (gate : Gated) (head : RecordHead) (received : List Received) (given : 
   few_told : sum_by refused_frames st.begun + sum_by versions st.begun ≤ length received
   few_told = subst (λ (items : List Item). sum_by refused_frames items + sum_by versions items ≤ length received) (sym (begun_all gate head received given st rest)) (part_once head received)
 
-  ready : (k : ℕ) (bound : Bound) → slice_get gate.binders k ≡ Some bound → gate.taken < 2 ^ 63 → IsReadyBinder bound × (bound.profile ≡ gate.profile)
+  ready : (k : ℕ) (bound : BinderState) → slice_get gate.binders k ≡ Some bound → gate.taken < 2 ^ 63 → IsReadyBinder bound × (bound.profile ≡ gate.profile)
   ready k bound p few =
       let route = route_at k bound p in
       let idle = idle_at_rest.each k route.0 bound route.1 p in (
@@ -90,12 +90,12 @@ module _ (gate : Gated) (head : RecordHead) (received : List Received) (given : 
   some_empty : 0 < length gate.empty
   some_empty =
       let most = head.limits.data_window + 1 + head.limits.pending in
-      let each : (k : ℕ) (b : Bound) → slice_get gate.binders k ≡ Some b → number_kept b ≤ most =
+      let each : (k : ℕ) (b : BinderState) → slice_get gate.binders k ≡ Some b → number_kept b ≤ most =
       λ k b p.
       let route = route_at k b p in
       let idle = idle_at_rest.each k route.0 b route.1 p in
       subst (λ (l : Limits). number_kept b ≤ l.data_window + 1 + l.pending) idle.stream.limits idle.stream.kept in
-      omega (arith, st.buffers.all, few_kept most gate.binders (all_by_place (λ (b : Bound). number_kept b ≤ most) gate.binders each), ap (λ n. n * most) idle_at_rest.all)
+      omega (arith, st.buffers.all, few_kept most gate.binders (all_by_place (λ (b : BinderState). number_kept b ≤ most) gate.binders each), ap (λ n. n * most) idle_at_rest.all)
 
   pub may_take : (size : ℕ) → gate.taken + 1 + size < 2 ^ 63 → MayTake gate size
   may_take size few = record {

@@ -11,7 +11,7 @@ use Rattle.sample_binder.specs.Calls.{Call, EndCall, outputs_of, given_by}
 use Rattle.sample_binder.specs.Parts.{payload_of}
 use Rattle.sample_binder.specs.declared.out.Out.{Out}
 use Rattle.sample_binder.specs.declared.out.Out.TheVariants as out
-use Rattle.sample_binder.specs.declared.turned.Turned.{Turned}
+use Rattle.sample_binder.specs.declared.arrive.Turned.{Turned}
 use Rattle.difi_gateway.specs.Contents.{Received}
 use Rattle.difi_gateway.specs.Calls.{calls_by, calls}
 use Rattle.difi_gateway.specs.Told.{Item, RefusedItem, RunItem, VersionItem, runs_from, runs_told, turned_away, is_listed, bound, called, told_by, told}

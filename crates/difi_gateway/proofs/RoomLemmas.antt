@@ -10,7 +10,7 @@ use Rattle.sample_binder.specs.Calls.{Call, ContextCall, DataCall, EndCall, outp
 use Rattle.sample_binder.specs.Parts.{IsCallOf, AreCallsOf, Part, outs_of, IsWhole, IsGivenIn}
 use Rattle.sample_binder.specs.declared.out.Out.{Out}
 use Rattle.sample_binder.specs.declared.out.Out.TheVariants as out
-use Rattle.sample_binder.specs.declared.run.Run.{Run}
+use Rattle.sample_binder.specs.declared.out.Run.{Run}
 use Rattle.sample_binder.proofs.EventLemmas.{every-append}
 use Rattle.sample_binder.proofs.PartLemmas.{outputs_whole}
 use Rattle.difi_gateway.specs.Calls.{buffer_of, calls_by, calls}

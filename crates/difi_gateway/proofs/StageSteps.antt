@@ -6,7 +6,7 @@ use Rattle.std.proofs.lemmas.List.{append-nil, drop_all}
 use Rattle.std.proofs.lemmas.Option.{slice_get_within, same_Some}
 use Rattle.vrt_fields.specs.declared.route.Route.{Route}
 use Rattle.replay_form.specs.declared.record_head.RecordHead.{RecordHead}
-use Rattle.sample_binder.specs.Binder.{Bound}
+use Rattle.sample_binder.specs.Binder.{BinderState}
 use Rattle.sample_binder.specs.Queue.{owed}
 use Rattle.sample_binder.specs.declared.out.Out.{Out}
 use Rattle.sample_binder.specs.declared.out.Out.TheVariants as out
@@ -28,7 +28,7 @@ use Rattle.difi_gateway.proofs.DrawSteps.{none_left, nothing_drawn}
 pub record IsSpent (gate : Gated) (head : RecordHead) (received : List Received) (ended : Bool) (given index : ℕ) : Type 0 where
   pub stands : StandsFor gate head received ended given
   pub none : stands.left ≡ []
-  pub was : Bound
+  pub was : BinderState
   pub there : slice_get gate.binders index ≡ Some was
   pub nothing : owed was.state ≡ []
 
@@ -64,12 +64,12 @@ module _ (old : Gated) (head : RecordHead) (received : List Received) (ended : B
   abbrev st : StandsFor old head received ended given
   st = s.stands
 
-  idle_at : (k : ℕ) (route : Route) (bound : Bound) → slice_get head.routes k ≡ Some route → slice_get old.binders k ≡ Some bound
+  idle_at : (k : ℕ) (route : Route) (bound : BinderState) → slice_get head.routes k ≡ Some route → slice_get old.binders k ≡ Some bound
       → IsBinder head received (stages.Drawing index) [] k route bound → IsIdle head (calls_with (nat_lt k 0) (calls head route.stream received)) bound
   idle_at k route bound r b is = elim (cases_eq k index) [
     | inl same ↦
         let one : s.was ≡ bound = same_Some _ _ (sym s.there ∙ subst (λ n. slice_get old.binders n ≡ Some bound) same b) in
-        record { stream = is.drawn same; nothing = ap (λ (x : Bound). owed x.state) (sym one) ∙ s.nothing }
+        record { stream = is.drawn same; nothing = ap (λ (x : BinderState). owed x.state) (sym one) ∙ s.nothing }
     | inr other ↦ is.idle other
   ]
 
@@ -132,7 +132,7 @@ module _ (old : Gated) (head : RecordHead) (received : List Received) (ended : B
       st.rest ∙ ap (λ l. l ++ (copies head.routes (items_left head received old st.left old.stage) ++ end_left head received old.stage)) (no_copies old quiet)
       ∙ ap (λ l. copies head.routes l ++ end_left head received old.stage) nothing_left ∙ ap (end_left head received) ending
 
-  idle_over : (k : ℕ) (route : Route) (bound : Bound) → slice_get head.routes k ≡ Some route → IsBinder head received (stages.Ending index) st.left k route bound
+  idle_over : (k : ℕ) (route : Route) (bound : BinderState) → slice_get head.routes k ≡ Some route → IsBinder head received (stages.Ending index) st.left k route bound
       → IsIdle head (calls_with (nat_lt k (length head.routes)) (calls head route.stream received)) bound
   idle_over k route bound r is =
       let lt = slice_get_within head.routes k route r in

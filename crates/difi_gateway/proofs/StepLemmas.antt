@@ -6,7 +6,7 @@ use Rattle.std.proofs.lemmas.List.{length-set, take-take, take-append-le}
 use Rattle.std.proofs.lemmas.Option.{slice_get_within}
 use Rattle.vrt_fields.specs.declared.route.Route.{Route}
 use Rattle.replay_form.specs.declared.record_head.RecordHead.{RecordHead}
-use Rattle.sample_binder.specs.Binder.{Bound}
+use Rattle.sample_binder.specs.Binder.{BinderState}
 use Rattle.sample_binder.specs.declared.out.Out.{Out}
 use Rattle.sample_binder.specs.declared.out.Out.TheVariants as out
 use Rattle.difi_gateway.specs.Calls.{calls}
@@ -60,7 +60,7 @@ module _ (old new : Gated) (w : IsSound old) where
       let given = copy_given old new w.head w.received (is_ended old.stage) w.given w.stands bytes c in
       sound_kept old new (w.given + 1) w same.way
       (subst (λ b. StandsFor new w.head w.received b (w.given + 1)) (sym same.way.ended) given.1)
-      (subst (λ s. IsWithin s (length new.binders)) (sym same.stage) (subst (λ (bs : List Bound). IsWithin old.stage (length bs)) (sym same.binders) w.drawing))
+      (subst (λ s. IsWithin s (length new.binders)) (sym same.stage) (subst (λ (bs : List BinderState). IsWithin old.stage (length bs)) (sym same.binders) w.drawing))
 
   -- ---- the counts
 
@@ -96,7 +96,7 @@ module _ (old new : Gated) (w : IsSound old) where
       let mid = record old { binders = slice_set old.binders index d.now } in
       let stage : new.stage ≡ old.stage = ap (λ (g : Gated). g.stage) d.after ∙ drawn_stage d.given index mid in
       let number : length new.binders ≡ length old.binders =
-      ap (λ (g : Gated). length g.binders) d.after ∙ ap (λ (bs : List Bound). length bs) (drawn_length d.given index mid) ∙ length-set old.binders index d.now in
+      ap (λ (g : Gated). length g.binders) d.after ∙ ap (λ (bs : List BinderState). length bs) (drawn_length d.given index mid) ∙ length-set old.binders index d.now in
       subst (λ s. IsWithin s (length new.binders)) (sym stage) (subst (λ n. IsWithin old.stage n) (sym number) w.drawing)
 
   gone_within : (s : Stage) → old.stage ≡ s → IsGoneOn s old new → IsWithin new.stage (length new.binders)
@@ -154,7 +154,7 @@ module _ (old new : Gated) (w : IsSound old) where
 -- ---- what is asked for
 
 module _ (gate : Gated) (head : RecordHead) (received : List Received) (ended : Bool) (given : ℕ) (st : StandsFor gate head received ended given) where
-  untold_by : (ended' : Bool) (number : ℕ) (bound : Bound) → slice_get gate.binders number ≡ Some bound → ended' ≡ false
+  untold_by : (ended' : Bool) (number : ℕ) (bound : BinderState) → slice_get gate.binders number ≡ Some bound → ended' ≡ false
       → ((route : Route) → slice_get head.routes number ≡ Some route → IsIdle head (calls_with ended' (calls head route.stream received)) bound) → IsUntold bound
   untold_by ended' number bound p e idle =
       let route = route_by_place head.routes number (omega (arith, slice_get_within gate.binders number bound p, st.binders.all)) in

@@ -15,8 +15,8 @@ use Rattle.sample_binder.specs.Outputs.{outputs}
 use Rattle.sample_binder.specs.Parts.{Part, outs_of, AreParts, AnyPart}
 use Rattle.sample_binder.specs.declared.out.Out.{Out}
 use Rattle.sample_binder.specs.declared.out.Out.TheVariants as out
-use Rattle.sample_binder.specs.declared.turned.Turned.{Turned}
-use Rattle.sample_binder.specs.declared.turned.Turned.TheVariants as turned
+use Rattle.sample_binder.specs.declared.arrive.Turned.{Turned}
+use Rattle.sample_binder.specs.declared.arrive.Turned.TheVariants as turned
 use Rattle.sample_binder.proofs.ArrivalLemmas.{behind-append}
 use Rattle.sample_binder.proofs.BinderLemmas.{events_of-more}
 use Rattle.sample_binder.proofs.PartLemmas.{later_packets, outputs_append}

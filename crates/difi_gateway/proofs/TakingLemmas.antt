@@ -12,8 +12,8 @@ use Rattle.std.proofs.lemmas.Option.{slice_get_within}
 use Rattle.vrt_words.specs.Buffer.{Buffer}
 use Rattle.sample_binder.specs.Calls.{Call}
 use Rattle.difi_gateway.specs.declared.stage.Stage.TheVariants as stages
-use Rattle.sample_binder.specs.declared.turned.Turned.{Turned}
-use Rattle.sample_binder.specs.declared.turned.Turned.TheVariants as whys
+use Rattle.sample_binder.specs.declared.arrive.Turned.{Turned}
+use Rattle.sample_binder.specs.declared.arrive.Turned.TheVariants as whys
 use Rattle.release_form.specs.declared.refusal.Refusal.{Refusal}
 use Rattle.release_form.specs.declared.refusal.Refusal.TheVariants.{TooLarge, Malformed, NoRoute, Late, Repeat, Conflict, NotAddressed, Reused, ScheduleFull, Answer}
 use Rattle.difi_gateway.specs.Contents.{Content, Larger, NoPacket, Holds, Received, IsContent}

@@ -14,15 +14,15 @@ use Rattle.release_form.specs.declared.shown.Shown.TheVariants as shown
 use Rattle.sample_binder.specs.Calls.{Call, ContextCall, DataCall, EndCall, given_by}
 use Rattle.sample_binder.specs.Parts.{IsCallOf, AreCallsOf, Part, outs_of, payload_of, IsWhole, AreWhole}
 use Rattle.sample_binder.specs.RunRules.{HoldsRun, IsWritable}
-use Rattle.sample_binder.specs.declared.run.Run.TheVariants as run
+use Rattle.sample_binder.specs.declared.out.Run.TheVariants as run
 use Rattle.std.proofs.Math.Nat.{mul-le-mul_left}
 use Rattle.release_form.specs.Layout.{front_of_run}
 use Rattle.release_form.specs.Sizes.{run_part_size}
 use Rattle.sample_binder.specs.declared.out.Out.{Out}
 use Rattle.sample_binder.specs.declared.out.Out.TheVariants as out
-use Rattle.sample_binder.specs.declared.run.Run.{Run}
-use Rattle.sample_binder.specs.declared.turned.Turned.{Turned}
-use Rattle.sample_binder.specs.declared.turned.Turned.TheVariants as turned
+use Rattle.sample_binder.specs.declared.out.Run.{Run}
+use Rattle.sample_binder.specs.declared.arrive.Turned.{Turned}
+use Rattle.sample_binder.specs.declared.arrive.Turned.TheVariants as turned
 use Rattle.sample_binder.proofs.EventLemmas.{every-append}
 use Rattle.sample_binder.proofs.PartLemmas.{given_whole}
 use Rattle.difi_gateway.specs.Contents.{Content, Larger, NoPacket, Holds, IsContent, Received, IsReceived}

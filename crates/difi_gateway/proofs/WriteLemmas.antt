@@ -9,7 +9,7 @@ use Rattle.std.proofs.lemmas.Option.{slice_get_within, slice_get-get_or, get_or_
 use Rattle.vrt_words.specs.Buffer.{Buffer}
 use Rattle.vrt_fields.specs.declared.route.Route.{Route}
 use Rattle.sample_binder.specs.Parts.{payload_of}
-use Rattle.sample_binder.specs.declared.run.Run.{Run}
+use Rattle.sample_binder.specs.declared.out.Run.{Run}
 use Rattle.release_form.specs.Refusals.{refusal_number}
 use Rattle.release_form.specs.Release.{IsPushed}
 use Rattle.release_form.specs.declared.refusal.Refusal.{Refusal}

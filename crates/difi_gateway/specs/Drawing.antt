@@ -1,14 +1,14 @@
 -- What a gateway draws from a binder, and how it goes on to the next one.
 use Rattle.std.specs.Prelude.{◌≡◌, ◌⊎◌, ℕ, ◌+◌, ◌<◌, ◌≤◌, false, true, List, [], ◌∷◌, ◌++◌, length, slice_get, slice_set, Option, Some, None, IfNone, OnSome}
 use Rattle.sample_binder.specs.Binder as binder
-use Rattle.sample_binder.specs.Binder.{Bound, number_kept}
+use Rattle.sample_binder.specs.Binder.{BinderState, number_kept}
 use Rattle.sample_binder.specs.Calls.{Call, EndCall, outputs_of}
 use Rattle.sample_binder.specs.Outputs.{packets_in}
 use Rattle.sample_binder.specs.Queue.{owed}
 use Rattle.sample_binder.specs.declared.out.Out.{Out}
 use Rattle.sample_binder.specs.declared.out.Out.TheVariants as out
-use Rattle.sample_binder.specs.declared.run.Run.{Run}
-use Rattle.sample_binder.specs.declared.run.Run.TheVariants as run
+use Rattle.sample_binder.specs.declared.out.Run.{Run}
+use Rattle.sample_binder.specs.declared.out.Run.TheVariants as run
 use Rattle.difi_gateway.specs.State.{Gated}
 use Rattle.difi_gateway.specs.Steps.{more}
 use Rattle.difi_gateway.specs.declared.drawn.Drawn.{Drawn}
@@ -24,7 +24,7 @@ packets_given None = 0
 packets_given (Some given) = packets_in given
 
 -- a binder gave its next output, or nothing is owed
-pub record IsGivenBy (given : Option Out) (was now : Bound) : Type 0 where
+pub record IsGivenBy (given : Option Out) (was now : BinderState) : Type 0 where
   pub same : binder.SameBinder was now
   pub count : now.given ≡ was.given
   pub outs : (calls : List Call) (taken : ℕ) → binder.StandsFor was calls taken → given ≡ slice_get (outputs_of was.limits calls) taken
@@ -57,9 +57,9 @@ drawn_from old index (Some (out.Run run)) = record old {
 
 -- the binder of this route gave its next output, which is told, or nothing is owed
 pub record IsDrawn (index : ℕ) (result : Drawn) (old new : Gated) : Type 0 where
-  pub was : Bound
+  pub was : BinderState
   pub there : slice_get old.binders index ≡ Some was
-  pub now : Bound
+  pub now : BinderState
   pub given : Option Out
   pub by : IsGivenBy given was now
   pub result_is : result ≡ drawn_as given
@@ -68,12 +68,12 @@ pub record IsDrawn (index : ℕ) (result : Drawn) (old new : Gated) : Type 0 whe
 -- ---- the end, binder by binder
 
 -- nothing is owed, and the end was not told
-pub record IsUntold (bound : Bound) : Type 0 where
+pub record IsUntold (bound : BinderState) : Type 0 where
   pub nothing : owed bound.state ≡ []
   pub untold : bound.told ≡ false
 
 -- the end was told to a binder
-pub record IsEnded (was now : Bound) : Type 0 where
+pub record IsEnded (was now : BinderState) : Type 0 where
   pub stands : (calls : List Call) (taken : ℕ) → binder.StandsFor was calls taken → binder.StandsFor now (calls ++ EndCall ∷ []) taken
   pub profile : now.profile ≡ was.profile
   pub limits : now.limits ≡ was.limits
@@ -83,9 +83,9 @@ pub record IsEnded (was now : Bound) : Type 0 where
 
 -- the binder of this route was told the end
 pub record IsEndAt (index : ℕ) (old new : Gated) : Type 0 where
-  pub was : Bound
+  pub was : BinderState
   pub there : slice_get old.binders index ≡ Some was
-  pub now : Bound
+  pub now : BinderState
   pub ended : IsEnded was now
   pub after : new ≡ record old { binders = slice_set old.binders index now; stage = stages.Ending index }
 
@@ -98,12 +98,12 @@ abbrev pub IsEndTold : ℕ → Gated → Gated → Type 0
 IsEndTold index old new = IsEndAt index old new ⊎ IsEndBehind index old new
 
 -- a binder at this index can be told the end
-abbrev pub MayBeTold : ℕ → List Bound → Type 0
-MayBeTold index binders = (bound : Bound) → slice_get binders index ≡ Some bound → IsUntold bound
+abbrev pub MayBeTold : ℕ → List BinderState → Type 0
+MayBeTold index binders = (bound : BinderState) → slice_get binders index ≡ Some bound → IsUntold bound
 
 -- ---- the next binder
 
-abbrev pub MayGoOn : Stage → List Bound → Type 0
+abbrev pub MayGoOn : Stage → List BinderState → Type 0
 MayGoOn (stages.Ending index) binders = (index < length binders) × MayBeTold (index + 1) binders
 MayGoOn stage binders = Unit {0}
 

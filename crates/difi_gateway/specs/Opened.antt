@@ -6,14 +6,14 @@ use Rattle.vrt_header.specs.Profile.{PacketProfile}
 use Rattle.vrt_fields.specs.declared.limits.Limits.{Limits}
 use Rattle.replay_form.specs.declared.record_head.RecordHead.{RecordHead}
 use Rattle.sample_binder.specs.Binder as binder
-use Rattle.sample_binder.specs.Binder.{Bound, number_kept}
+use Rattle.sample_binder.specs.Binder.{BinderState, number_kept}
 use Rattle.sample_binder.specs.Queue.{owed}
 use Rattle.difi_gateway.specs.State.{Gated, HasRoom, number_of_buffers}
 use Rattle.difi_gateway.specs.Telling as telling
 use Rattle.difi_gateway.specs.declared.stage.Stage.TheVariants as stages
 
 -- a binder of this profile and these limits, to which nothing was given
-pub record IsFresh (profile : PacketProfile) (limits : Limits) (bound : Bound) : Type 0 where
+pub record IsFresh (profile : PacketProfile) (limits : Limits) (bound : BinderState) : Type 0 where
   pub profile_is : bound.profile ≡ profile
   pub limits_are : bound.limits ≡ limits
   pub given : bound.given ≡ 0
@@ -23,7 +23,7 @@ pub record IsFresh (profile : PacketProfile) (limits : Limits) (bound : Bound) :
   pub none_kept : number_kept bound ≡ 0
 
 -- a gateway of these binders and buffers, with memory for so many: it waits for the first frame
-abbrev pub opened : RecordHead → List Bound → List Buffer → ℕ → Gated
+abbrev pub opened : RecordHead → List BinderState → List Buffer → ℕ → Gated
 opened head binders empty capacity = record {
   profile = head.profile;
   max_words = head.max_words;

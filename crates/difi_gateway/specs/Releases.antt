@@ -6,7 +6,7 @@ use Rattle.vrt_words.specs.Words.{AreBytes}
 use Rattle.vrt_fields.specs.declared.route.Route.{Route}
 use Rattle.replay_form.specs.FrameFields.{Frame}
 use Rattle.replay_form.specs.declared.record_head.RecordHead.{RecordHead}
-use Rattle.sample_binder.specs.declared.run.Run.TheVariants as run
+use Rattle.sample_binder.specs.declared.out.Run.TheVariants as run
 use Rattle.release_form.specs.Release.{IsRecordOf}
 use Rattle.release_form.specs.Refusals.{refusal_number}
 use Rattle.release_form.specs.declared.shown.Shown.{Shown}

@@ -7,7 +7,7 @@ use Rattle.vrt_fields.specs.declared.route.Route.{Route}
 use Rattle.replay_form.specs.HeadValues.{AreHeadValues}
 use Rattle.replay_form.specs.declared.record_head.RecordHead.{RecordHead}
 use Rattle.sample_binder.specs.Binder as binder
-use Rattle.sample_binder.specs.Binder.{Bound, number_kept}
+use Rattle.sample_binder.specs.Binder.{BinderState, number_kept}
 use Rattle.sample_binder.specs.Calls.{Call, EndCall, outputs_of, given_by}
 use Rattle.sample_binder.specs.Parts.{payload_of}
 use Rattle.sample_binder.specs.Queue.{owed}
@@ -32,7 +32,7 @@ pub record Gated : Type 0 where
   pub profile : PacketProfile
   pub max_words : ℕ
   pub routes : List Route
-  pub binders : List Bound
+  pub binders : List BinderState
   pub empty : List Buffer
   pub capacity : ℕ
   pub counts : List ℕ
@@ -133,11 +133,11 @@ calls_with false calls = calls
 calls_with true calls = calls ++ EndCall ∷ []
 
 -- it keeps no more than its window and its queue may hold
-abbrev pub IsKeptFew : Bound → Type 0
+abbrev pub IsKeptFew : BinderState → Type 0
 IsKeptFew bound = number_kept bound ≤ bound.limits.data_window + 1 + bound.limits.pending
 
 -- a binder has had these calls, and these outputs are left
-pub record IsStream (head : RecordHead) (calls : List Call) (left : List Out) (bound : Bound) : Type 0 where
+pub record IsStream (head : RecordHead) (calls : List Call) (left : List Out) (bound : BinderState) : Type 0 where
   pub profile : bound.profile ≡ head.profile
   pub limits : bound.limits ≡ head.limits
   pub few : bound.given ≤ length calls
@@ -147,12 +147,12 @@ pub record IsStream (head : RecordHead) (calls : List Call) (left : List Out) (b
   pub left_is : left ≡ drop taken (outputs_of head.limits calls)
 
 -- all was taken
-pub record IsIdle (head : RecordHead) (calls : List Call) (bound : Bound) : Type 0 where
+pub record IsIdle (head : RecordHead) (calls : List Call) (bound : BinderState) : Type 0 where
   pub stream : IsStream head calls [] bound
   pub nothing : owed bound.state ≡ []
 
 -- binder number k, of this route: the one that gives has these outputs left, and each other one none
-pub record IsBinder (head : RecordHead) (received : List Received) (stage : Stage) (left : List Out) (k : ℕ) (route : Route) (bound : Bound) : Type 0 where
+pub record IsBinder (head : RecordHead) (received : List Received) (stage : Stage) (left : List Out) (k : ℕ) (route : Route) (bound : BinderState) : Type 0 where
   pub drawn : is_drawn stage k → IsStream head (calls_with (nat_lt k (number_ended (length head.routes) stage)) (calls head route.stream received)) left bound
   pub idle : (is_drawn stage k → ⊥) → IsIdle head (calls_with (nat_lt k (number_ended (length head.routes) stage)) (calls head route.stream received)) bound
 
@@ -164,10 +164,10 @@ IsNoneBehind (stages.Ending index) routes left = routes ≤ index → left ≡ [
 IsNoneBehind stages.Over routes left = Unit {0}
 
 -- one for each route
-pub record AreBinders (head : RecordHead) (received : List Received) (stage : Stage) (left : List Out) (binders : List Bound) : Type 0 where
+pub record AreBinders (head : RecordHead) (received : List Received) (stage : Stage) (left : List Out) (binders : List BinderState) : Type 0 where
   pub all : length binders ≡ length head.routes
   pub none_behind : IsNoneBehind stage (length head.routes) left
-  pub each : (k : ℕ) (route : Route) (bound : Bound) → slice_get head.routes k ≡ Some route → slice_get binders k ≡ Some bound → IsBinder head received stage left k route bound
+  pub each : (k : ℕ) (route : Route) (bound : BinderState) → slice_get head.routes k ≡ Some route → slice_get binders k ≡ Some bound → IsBinder head received stage left k route bound
 
 -- ---- what it stands for
 
@@ -190,7 +190,7 @@ abbrev pub HasRoom : ℕ → Buffer → Type 0
 HasRoom max_words buf = buf.room ≡ 4 * max_words
 
 -- all of them are kept by the binders, or empty
-pub record AreBuffers (head : RecordHead) (binders : List Bound) (empty : List Buffer) : Type 0 where
+pub record AreBuffers (head : RecordHead) (binders : List BinderState) (empty : List Buffer) : Type 0 where
   pub all : length empty + sum_by number_kept binders ≡ number_of_buffers head
   pub rooms : AllByRecursion (HasRoom head.max_words) empty
 

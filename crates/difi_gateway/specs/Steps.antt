@@ -7,11 +7,11 @@ use Rattle.difi_context.specs.declared.context.ContextRec.{ContextRec}
 use Rattle.vrt_time.specs.Time.{TimeStamp}
 use Rattle.difi_packet.specs.Packet.{PacketValue, DataValue, ContextValue, VersionValue, ControlValue, CancelValue, AckValue, IsPacket}
 use Rattle.sample_binder.specs.Binder as binder
-use Rattle.sample_binder.specs.Binder.{Bound, number_kept}
+use Rattle.sample_binder.specs.Binder.{BinderState, number_kept}
 use Rattle.sample_binder.specs.Calls.{Call, ContextCall, DataCall}
 use Rattle.sample_binder.specs.Queue.{owed}
-use Rattle.sample_binder.specs.declared.turned.Turned.{Turned}
-use Rattle.sample_binder.specs.declared.turned.Turned.TheVariants as turned
+use Rattle.sample_binder.specs.declared.arrive.Turned.{Turned}
+use Rattle.sample_binder.specs.declared.arrive.Turned.TheVariants as turned
 use Rattle.release_form.specs.declared.refusal.Refusal.{Refusal}
 use Rattle.release_form.specs.declared.refusal.Refusal.TheVariants.{Malformed, NoRoute, Late, Repeat, Conflict, Answer}
 use Rattle.stream_routes.specs.Ports.{IsRouteAt}
@@ -66,7 +66,7 @@ refused_for old port size (turned.Conflict count) = refused old port size Confli
 -- ---- a packet that is given to a binder
 
 -- nothing is owed, and the end was not told
-pub record IsReadyBinder (bound : Bound) : Type 0 where
+pub record IsReadyBinder (bound : BinderState) : Type 0 where
   pub nothing : owed bound.state ≡ []
   pub untold : bound.told ≡ false
   pub few : bound.given < 2 ^ 63
@@ -86,7 +86,7 @@ kept_by (DataCall buf) None = 1
 kept_by call turned = 0
 
 -- the packet of a call was taken, or was turned away
-pub record IsCalled (call : Call) (turned : Option Turned) (old new : Bound) : Type 0 where
+pub record IsCalled (call : Call) (turned : Option Turned) (old new : BinderState) : Type 0 where
   pub same : binder.SameBinder old new
   pub stands : (calls : List Call) (taken : ℕ) → binder.StandsFor old calls taken → binder.StandsFor new (calls ++ call ∷ []) taken
   pub answer : (calls : List Call) (taken : ℕ) → binder.StandsFor old calls taken → turned ≡ turned_away old.limits calls call
@@ -113,9 +113,9 @@ called_with old port size index (Some why) = refused_for old port size why
 pub record IsGivenAt (call : Call) (port size stream : ℕ) (buffers : List Buffer) (turned : Option Turned) (old new : Gated) : Type 0 where
   pub index : ℕ
   pub route : IsRouteAt old.routes stream index
-  pub was : Bound
+  pub was : BinderState
   pub there : slice_get old.binders index ≡ Some was
-  pub now : Bound
+  pub now : BinderState
   pub called : IsCalled call turned was now
   pub after : new ≡ called_with (record old { binders = slice_set old.binders index now; empty = buffers }) port size index turned
 
@@ -172,7 +172,7 @@ IsVersionTaken stream bytes port old new = IsWithoutRoute port (length bytes) st
 -- every binder is ready, there is one for each route, an empty buffer with room for so many bytes, and the counts can go on
 pub record MayTake (gate : Gated) (size : ℕ) : Type 0 where
   pub all : length gate.binders ≡ length gate.routes
-  pub each : (k : ℕ) (bound : Bound) → slice_get gate.binders k ≡ Some bound → IsReadyBinder bound × (bound.profile ≡ gate.profile)
+  pub each : (k : ℕ) (bound : BinderState) → slice_get gate.binders k ≡ Some bound → IsReadyBinder bound × (bound.profile ≡ gate.profile)
   pub some : 0 < length gate.empty
   pub rooms : AllByRecursion (HasRoom gate.max_words) gate.empty
   pub few : gate.taken + 1 + size < 2 ^ 63

@@ -1,7 +1,7 @@
 -- What a gateway tells now, once for each port of its stream, and a refusal once.
 use Rattle.std.specs.Prelude.{ℕ, Option}
 use Rattle.vrt_time.specs.Time.{TimeStamp}
-use Rattle.sample_binder.specs.declared.run.Run.{Run as SampleRun}
+use Rattle.sample_binder.specs.declared.out.Run.{Run as SampleRun}
 use Rattle.release_form.specs.declared.refusal.Refusal.{Refusal}
 use Rattle.difi_gateway.specs.declared.telling.Telling as declared
 use Rattle.difi_gateway.specs.declared.telling.Telling.TheVariants as held

@@ -15,8 +15,10 @@ pub(crate) fn packet_of(
 ) -> Result<Packet<'_>, (Refusal, u32)>
     requires { length datagram.now < 2 ^ 32 }
     ensures fits { IfOk result (λ packet. length datagram.now ≤ 4 * max_words) }
-    ensures packet { IfOk result (λ packet. IsDatagram (IsPacket profile) (value_of packet) datagram.now) }
-    ensures none { IfErr result (λ refused. IsNoPacket profile max_words datagram.now refused.0 refused.1) }
+    ensures packet { IfOk result (λ packet.
+        IsDatagram (IsPacket profile) (value_of packet) datagram.now) }
+    ensures none { IfErr result (λ refused.
+        IsNoPacket profile max_words datagram.now refused.0 refused.1) }
 {
     if is_larger(max_words, datagram) {
         return Err((Refusal::TooLarge, datagram.len() as u32));

@@ -24,7 +24,8 @@ impl Parts {
     /// Draws the next output of the binder of this route, and tells it where it is a run.
     pub fn draw_next(&mut self, index: usize) -> Drawn
         requires within { index < length self.old.binders.items }
-        requires room { length self.old.empty.items + sum_by number_kept self.old.binders.items ≤ vec_capacity self.old.empty }
+        requires room { length self.old.empty.items + sum_by number_kept self.old.binders.items
+            ≤ vec_capacity self.old.empty }
         requires bound { slice_index self.old.counts 1 < 2 ^ 63 }
         requires uncertain { slice_index self.old.counts 2 < 2 ^ 63 }
         requires raw { slice_index self.old.counts 3 < 2 ^ 63 }

@@ -61,14 +61,18 @@ impl Gateway {
         requires rest { IsAtRest self.old }
         requires short { length bytes.now ≤ 65535 }
         requires few { self.old.taken + 1 + length bytes.now < 2 ^ 63 }
-        ensures stands { (head : RecordHead) (received : List Received) (given : ℕ) → StandsFor self.old head received false given
+        ensures stands { (head : RecordHead) (received : List Received) (given : ℕ)
+            → StandsFor self.old head received false given
             → (content : Content) × IsContent head bytes.now content
-            × StandsFor self.new head (received ++ record { frame = record { stamp = moment; port = port; datagram = bytes.now }; content = content } ∷ []) false given }
+            × StandsFor self.new head (received
+            ++ record { frame = record { stamp = moment; port = port; datagram = bytes.now }; content = content } ∷ []) false given }
 
         // Whatever the frame is, the releases of each stream are those of the stream's own frames.
-        ensures apart { (head : RecordHead) (received : List Received) (given : ℕ) → StandsFor self.old head received false given
+        ensures apart { (head : RecordHead) (received : List Received) (given : ℕ)
+            → StandsFor self.old head received false given
             → (content : Content) → IsContent head bytes.now content → (stream : ℕ)
-            → IsApart head stream (received ++ record { frame = record { stamp = moment; port = port; datagram = bytes.now }; content = content } ∷ []) }
+            → IsApart head stream (received
+            ++ record { frame = record { stamp = moment; port = port; datagram = bytes.now }; content = content } ∷ []) }
         ensures running { is_ended self.new.stage ≡ false }
         ensures taken { self.new.taken ≡ self.old.taken + 1 + length bytes.now }
     {
@@ -82,7 +86,8 @@ impl Gateway {
     /// Nothing is owed before, and the end was not told.
     pub fn end(&mut self)
         requires rest { IsAtRest self.old }
-        ensures stands { (head : RecordHead) (received : List Received) (given : ℕ) → StandsFor self.old head received false given
+        ensures stands { (head : RecordHead) (received : List Received) (given : ℕ)
+            → StandsFor self.old head received false given
             → StandsFor self.new head received true given }
         ensures ended { is_ended self.new.stage ≡ true }
         ensures taken { self.new.taken ≡ self.old.taken }
@@ -94,7 +99,8 @@ impl Gateway {
     /// Whether a release record is owed.
     pub fn owes(&self) -> bool
         // Exactly where fewer releases were given than are defined.
-        ensures exactly { (head : RecordHead) (received : List Received) (ended : Bool) (given : ℕ) → StandsFor self.now head received ended given
+        ensures exactly { (head : RecordHead) (received : List Received) (ended : Bool) (given : ℕ)
+            → StandsFor self.now head received ended given
             → IsTrue result ↔ given < length (releases_of head received ended) }
         ensures rest { result ≡ false → IsSettledAt self.now }
     {
@@ -104,9 +110,11 @@ impl Gateway {
     /// The next release record. `None` exactly where nothing is owed.
     pub fn next_record(&mut self) -> Option<&[u8]>
         // What is lent is the next of the releases that are defined, as long as there is one.
-        ensures given { (head : RecordHead) (received : List Received) (ended : Bool) (given : ℕ) → StandsFor self.old head received ended given
+        ensures given { (head : RecordHead) (received : List Received) (ended : Bool) (given : ℕ)
+            → StandsFor self.old head received ended given
             → IfSome result (λ bytes. IsGiven head received ended given bytes.now) }
-        ensures none { (head : RecordHead) (received : List Received) (ended : Bool) (given : ℕ) → StandsFor self.old head received ended given
+        ensures none { (head : RecordHead) (received : List Received) (ended : Bool) (given : ℕ)
+            → StandsFor self.old head received ended given
             → IfNone result (IsAllGiven head received ended given) }
         ensures short { IfSome result (λ bytes. length bytes.now ≤ 262144) }
 
@@ -124,7 +132,8 @@ impl Gateway {
     /// and then nothing has changed.
     pub(crate) fn put_record(&mut self, out: &mut TextBuffer) -> bool
         requires { length out.old ≤ 65536 }
-        ensures given { IsTrue result → Appends (λ bytes. IsNextGiven bytes self.old self.new) out.old out.new }
+        ensures given { IsTrue result
+            → Appends (λ bytes. IsNextGiven bytes self.old self.new) out.old out.new }
         ensures same { result ≡ false → out.new ≡ out.old }
         ensures none { result ≡ false → IsNoneGiven self.old self.new }
     {

@@ -46,19 +46,24 @@ pub fn more_frames_append()
     ensures told { (head : RecordHead) (received later : List Received)
         → told head (received ++ later) ≡ told head received ++ told_from head received later }
     ensures releases { (head : RecordHead) (received later : List Received)
-        → part_of head (received ++ later) ≡ part_of head received ++ copies head.routes (told_from head received later) }
+        → part_of head (received ++ later)
+        ≡ part_of head received ++ copies head.routes (told_from head received later) }
     ensures bytes { (head : RecordHead) (frames later : List Frame) (bytes : List ℕ)
         → IsPartOf head (frames ++ later) bytes
-        → (front : List ℕ) × (rest : List ℕ) × (bytes ≡ front ++ rest) × IsPartOf head frames front }
+        → (front : List ℕ) × (rest : List ℕ) × (bytes ≡ front ++ rest)
+        × IsPartOf head frames front }
     ensures begins { (head : RecordHead) (frames later : List Frame) (a b : List ℕ)
-        → IsPartOf head frames a → IsPartOf head (frames ++ later) b → (rest : List ℕ) × (b ≡ a ++ rest) }
+        → IsPartOf head frames a → IsPartOf head (frames ++ later) b
+        → (rest : List ℕ) × (b ≡ a ++ rest) }
     ensures all_releases { (head : RecordHead) (received : List Received)
         → (more : List Release) × (out_of head received ≡ part_of head received ++ more) }
     ensures all_bytes { (head : RecordHead) (frames : List Frame) (bytes : List ℕ)
         → IsOutOf head frames bytes
-        → (front : List ℕ) × (rest : List ℕ) × (bytes ≡ front ++ rest) × IsPartOf head frames front }
+        → (front : List ℕ) × (rest : List ℕ) × (bytes ≡ front ++ rest)
+        × IsPartOf head frames front }
     ensures all_begins { (head : RecordHead) (frames later : List Frame) (a b : List ℕ)
-        → IsPartOf head frames a → IsOutOf head (frames ++ later) b → (rest : List ℕ) × (b ≡ a ++ rest) }
+        → IsPartOf head frames a → IsOutOf head (frames ++ later) b
+        → (rest : List ℕ) × (b ≡ a ++ rest) }
 {}
 
 /// A law that a proof can cite. What is told of bytes begins what is told of all bytes that begin with
@@ -66,7 +71,8 @@ pub fn more_frames_append()
 /// what is written of every record that begins with the bytes that were taken.
 #[inline]
 pub fn more_bytes_append()
-    ensures { (most : ℕ) (bytes text : List ℕ) → IsPart (replay_of most) bytes text → BeginsEach (replay_of most) bytes text }
+    ensures { (most : ℕ) (bytes text : List ℕ) → IsPart (replay_of most) bytes text
+        → BeginsEach (replay_of most) bytes text }
 {}
 
 /// A law that a proof can cite. Where a stream is listed among the routes, its runs among what is told
@@ -76,7 +82,8 @@ pub fn more_bytes_append()
 pub fn runs_are_of_outputs()
     ensures so_far { (head : RecordHead) (stream : ℕ) (received : List Received)
         → is_listed head.routes stream ≡ true
-        → runs_of_stream stream (told head received) ≡ runs_told stream (outputs_of head.limits (calls head stream received)) }
+        → runs_of_stream stream (told head received)
+        ≡ runs_told stream (outputs_of head.limits (calls head stream received)) }
     ensures whole { (head : RecordHead) (second : Bool) (stream : ℕ) (received : List Received)
         → AreRoutes second head.routes → is_listed head.routes stream ≡ true
         → runs_of_stream stream (all_told head received)
@@ -88,7 +95,8 @@ pub fn runs_are_of_outputs()
 #[inline]
 pub fn calls_are_of_packets()
     ensures packets { (head : RecordHead) (stream : ℕ) (received : List Received)
-        → AllByRecursion (IsReceived head) received → HoldBytes received → AreCallsOf head.profile (calls head stream received) }
+        → AllByRecursion (IsReceived head) received → HoldBytes received
+        → AreCallsOf head.profile (calls head stream received) }
     ensures running { (head : RecordHead) (stream : ℕ) (received : List Received)
         → is_told (calls head stream received) ≡ false }
 {}
@@ -99,17 +107,24 @@ pub fn calls_are_of_packets()
 #[inline]
 pub fn counts_are_at_most_bytes()
     ensures so_far { (head : RecordHead) (second : Bool) (received : List Received)
-        → AreRoutes second head.routes → AllByRecursion (IsReceived head) received → HoldBytes received
-        → sum_by bound_samples (told head received) + sum_by uncertain_samples (told head received) + sum_by raw_packets (told head received)
+        → AreRoutes second head.routes → AllByRecursion (IsReceived head) received
+        → HoldBytes received
+        → sum_by bound_samples (told head received) + sum_by uncertain_samples (told head received)
+        + sum_by raw_packets (told head received)
         ≤ sum_by (λ r. length r.frame.datagram) received }
     ensures whole { (head : RecordHead) (second : Bool) (received : List Received)
-        → AreRoutes second head.routes → AllByRecursion (IsReceived head) received → HoldBytes received
-        → sum_by bound_samples (all_told head received) + sum_by uncertain_samples (all_told head received) + sum_by raw_packets (all_told head received)
+        → AreRoutes second head.routes → AllByRecursion (IsReceived head) received
+        → HoldBytes received
+        → sum_by bound_samples (all_told head received)
+        + sum_by uncertain_samples (all_told head received)
+        + sum_by raw_packets (all_told head received)
         ≤ sum_by (λ r. length r.frame.datagram) received }
     ensures frames_so_far { (head : RecordHead) (received : List Received)
-        → sum_by refused_frames (told head received) + sum_by versions (told head received) ≤ length received }
+        → sum_by refused_frames (told head received) + sum_by versions (told head received)
+        ≤ length received }
     ensures frames { (head : RecordHead) (received : List Received)
-        → sum_by refused_frames (all_told head received) + sum_by versions (all_told head received) ≤ length received }
+        → sum_by refused_frames (all_told head received) + sum_by versions (all_told head received)
+        ≤ length received }
 {}
 
 /// A law that a proof can cite. A frame that is refused changes no run of any stream, then or later: the
@@ -119,11 +134,15 @@ pub fn refused_frames_change_no_run()
     ensures so_far { (head : RecordHead) (stream : ℕ) (before later : List Received) (r : Received)
         (frame port : ℕ) (refusal : Refusal) (detail : ℕ) (stamp : Option TimeStamp)
         → told_by head before r ≡ RefusedItem frame port refusal detail stamp ∷ []
-        → runs_of_stream stream (told head (before ++ r ∷ later)) ≡ runs_of_stream stream (told head (before ++ later)) }
-    ensures whole { (head : RecordHead) (second : Bool) (stream : ℕ) (before later : List Received) (r : Received)
+        → runs_of_stream stream (told head (before ++ r ∷ later))
+        ≡ runs_of_stream stream (told head (before ++ later)) }
+    ensures whole { (head : RecordHead) (second : Bool) (stream : ℕ) (before later : List Received)
+        (r : Received)
         (frame port : ℕ) (refusal : Refusal) (detail : ℕ) (stamp : Option TimeStamp)
-        → AreRoutes second head.routes → told_by head before r ≡ RefusedItem frame port refusal detail stamp ∷ []
-        → runs_of_stream stream (all_told head (before ++ r ∷ later)) ≡ runs_of_stream stream (all_told head (before ++ later)) }
+        → AreRoutes second head.routes
+        → told_by head before r ≡ RefusedItem frame port refusal detail stamp ∷ []
+        → runs_of_stream stream (all_told head (before ++ r ∷ later))
+        ≡ runs_of_stream stream (all_told head (before ++ later)) }
 {}
 
 /// A law that a proof can cite. Streams are kept apart: the runs of a stream, and its releases of kinds 1
@@ -131,23 +150,34 @@ pub fn refused_frames_change_no_run()
 /// with the same bytes, before the end and with it.
 #[inline]
 pub fn streams_are_kept_apart()
-    ensures only_received { (head : RecordHead) (stream : ℕ) (frames : List Frame) (received : List Received)
+    ensures only_received { (head : RecordHead) (stream : ℕ) (frames : List Frame)
+        (received : List Received)
         → AreReceived head frames received
         → AreReceived head (map frame_of (only stream received)) (only stream received) }
     ensures runs_so_far { (head : RecordHead) (stream : ℕ) (received : List Received)
-        → runs_of_stream stream (told head received) ≡ runs_of_stream stream (told head (only stream received)) }
-    ensures runs { (head : RecordHead) (second : Bool) (stream : ℕ) (received : List Received) → AreRoutes second head.routes
-        → runs_of_stream stream (all_told head received) ≡ runs_of_stream stream (all_told head (only stream received)) }
+        → runs_of_stream stream (told head received)
+        ≡ runs_of_stream stream (told head (only stream received)) }
+    ensures runs { (head : RecordHead) (second : Bool) (stream : ℕ) (received : List Received)
+        → AreRoutes second head.routes
+        → runs_of_stream stream (all_told head received)
+        ≡ runs_of_stream stream (all_told head (only stream received)) }
     ensures releases_so_far { (head : RecordHead) (stream : ℕ) (received : List Received)
-        → releases_of_stream stream (part_of head received) ≡ releases_of_stream stream (part_of head (only stream received)) }
-    ensures releases { (head : RecordHead) (second : Bool) (stream : ℕ) (received : List Received) → AreRoutes second head.routes
-        → releases_of_stream stream (out_of head received) ≡ releases_of_stream stream (out_of head (only stream received)) }
-    ensures there { (stream : ℕ) (releases : List Release) (bytes : List ℕ) → AreRecordsOf releases bytes
+        → releases_of_stream stream (part_of head received)
+        ≡ releases_of_stream stream (part_of head (only stream received)) }
+    ensures releases { (head : RecordHead) (second : Bool) (stream : ℕ) (received : List Received)
+        → AreRoutes second head.routes
+        → releases_of_stream stream (out_of head received)
+        ≡ releases_of_stream stream (out_of head (only stream received)) }
+    ensures there { (stream : ℕ) (releases : List Release) (bytes : List ℕ)
+        → AreRecordsOf releases bytes
         → (part : List ℕ) × AreStreamRecords stream releases bytes part }
-    ensures bytes_so_far { (head : RecordHead) (stream : ℕ) (received : List Received) (bytes others part other : List ℕ)
+    ensures bytes_so_far { (head : RecordHead) (stream : ℕ) (received : List Received)
+        (bytes others part other : List ℕ)
         → AreStreamRecords stream (part_of head received) bytes part
-        → AreStreamRecords stream (part_of head (only stream received)) others other → part ≡ other }
-    ensures bytes { (head : RecordHead) (second : Bool) (stream : ℕ) (received : List Received) (bytes others part other : List ℕ)
+        → AreStreamRecords stream (part_of head (only stream received)) others other
+        → part ≡ other }
+    ensures bytes { (head : RecordHead) (second : Bool) (stream : ℕ) (received : List Received)
+        (bytes others part other : List ℕ)
         → AreRoutes second head.routes
         → AreStreamRecords stream (out_of head received) bytes part
         → AreStreamRecords stream (out_of head (only stream received)) others other → part ≡ other }

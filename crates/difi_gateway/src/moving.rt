@@ -26,7 +26,8 @@ impl Parts {
     /// Whether a release is owed, where no binder can be drawn from.
     pub fn owes(&self) -> bool
         ensures owing { IsTrue result → IsOwing (gated self.now) }
-        ensures settled { result ≡ false → IsDrawnAhead (gated self.now) → IsSettledAt (gated self.now) }
+        ensures settled { result ≡ false → IsDrawnAhead (gated self.now)
+            → IsSettledAt (gated self.now) }
     {
         if self.tells() {
             return true;
@@ -77,7 +78,8 @@ impl Parts {
     #[inline]
     fn move_on(&mut self, index: usize)
         requires within { index < length self.old.binders.items }
-        requires room { length self.old.empty.items + sum_by number_kept self.old.binders.items ≤ vec_capacity self.old.empty }
+        requires room { length self.old.empty.items + sum_by number_kept self.old.binders.items
+            ≤ vec_capacity self.old.empty }
         requires bound { slice_index self.old.counts 1 < 2 ^ 63 }
         requires uncertain { slice_index self.old.counts 2 < 2 ^ 63 }
         requires raw { slice_index self.old.counts 3 < 2 ^ 63 }
@@ -96,7 +98,9 @@ impl Parts {
         requires sound { IsSound (gated self.old) }
         requires ahead { IsDrawnAhead (gated self.old) }
         requires room { length out.old ≤ 65536 }
-        ensures given { IsTrue result → Appends (λ bytes. IsNextGiven bytes (gated self.old) (gated self.new)) out.old out.new }
+        ensures given { IsTrue result
+            → Appends (λ bytes. IsNextGiven bytes (gated self.old)
+            (gated self.new)) out.old out.new }
         ensures sound { IsSound (gated self.new) }
         ensures ahead { IsDrawnAhead (gated self.new) }
         ensures same { result ≡ false → out.new ≡ out.old }
@@ -114,7 +118,9 @@ impl Parts {
         requires sound { IsSound (gated self.old) }
         requires ahead { IsDrawnAhead (gated self.old) }
         requires room { length out.old ≤ 65536 }
-        ensures given { IsTrue result → Appends (λ bytes. IsNextGiven bytes (gated self.old) (gated self.new)) out.old out.new }
+        ensures given { IsTrue result
+            → Appends (λ bytes. IsNextGiven bytes (gated self.old)
+            (gated self.new)) out.old out.new }
         ensures sound { IsSound (gated self.new) }
         ensures same { result ≡ false → out.new ≡ out.old }
         ensures none { result ≡ false → IsNoneGiven (gated self.old) (gated self.new) }
@@ -133,7 +139,9 @@ impl Parts {
         requires ahead { IsDrawnAhead (gated self.old) }
         requires quiet { (gated self.old).telling ≡ telling.Nothing }
         requires room { length out.old ≤ 65536 }
-        ensures given { IsTrue result → Appends (λ bytes. IsNextGiven bytes (gated self.old) (gated self.new)) out.old out.new }
+        ensures given { IsTrue result
+            → Appends (λ bytes. IsNextGiven bytes (gated self.old)
+            (gated self.new)) out.old out.new }
         ensures sound { IsSound (gated self.new) }
         ensures same { result ≡ false → out.new ≡ out.old }
         ensures none { result ≡ false → IsNoneGiven (gated self.old) (gated self.new) }

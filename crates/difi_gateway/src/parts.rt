@@ -211,8 +211,10 @@ impl Parts {
 // The last of the empty buffers, filled with these bytes.
 fn filled(empty: &mut Vec<PacketBuf>, bytes: &[u8]) -> PacketBuf
     requires some { 0 < length empty.old.items }
-    requires rooms { (max_words : ℕ) × AllByRecursion (HasRoom max_words) empty.old.items × (length bytes.now ≤ 4 * max_words) }
-    ensures filled { (last : Buffer) × (empty.old.items ≡ empty.new.items ++ last ∷ []) × (result ≡ record last { bytes = bytes.now }) }
+    requires rooms { (max_words : ℕ) × AllByRecursion (HasRoom max_words) empty.old.items
+        × (length bytes.now ≤ 4 * max_words) }
+    ensures filled { (last : Buffer) × (empty.old.items ≡ empty.new.items ++ last ∷ [])
+        × (result ≡ record last { bytes = bytes.now }) }
     ensures room { vec_len empty.new < vec_capacity empty.new }
     ensures capacity { vec_capacity empty.new ≡ vec_capacity empty.old }
 {

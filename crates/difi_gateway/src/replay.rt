@@ -51,8 +51,10 @@ pub fn replay_run<R: Threads + Sync, S: Source + Send, K: Sink + Send, G: Gate +
           writes_now = K.faults sink.new;
         }) }
     // Where no read and no write fails, the bytes decide, unless memory runs out.
-    ensures complete { ¬ Rose (S.faults source.old) (S.faults source.new) → ¬ Rose (K.faults sink.old) (K.faults sink.new) →
-        IfSome (S.left source.old) (λ bytes. (result ≡ Status.Memory) ⊎ IsVerdict record_grammar options.now.max_bytes bytes result) }
+    ensures complete { ¬ Rose (S.faults source.old) (S.faults source.new)
+        → ¬ Rose (K.faults sink.old) (K.faults sink.new) →
+        IfSome (S.left source.old) (λ bytes. (result ≡ Status.Memory)
+        ⊎ IsVerdict record_grammar options.now.max_bytes bytes result) }
 
     // Want of memory leaves the sink as it was.
     ensures memory { result ≡ Status.Memory → sink.new ≡ sink.old }

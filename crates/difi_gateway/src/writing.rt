@@ -26,7 +26,8 @@ impl Parts {
         requires placed { IsPlaced self.old.routes (gated self.old).telling self.old.place }
         requires can { AllByRecursion CanBeWritten (copies_left (gated self.old)) }
         requires room { length out.old ≤ 65536 }
-        ensures { Appends (λ bytes. IsCopyWritten bytes (gated self.old) (gated self.new)) out.old out.new }
+        ensures { Appends (λ bytes.
+            IsCopyWritten bytes (gated self.old) (gated self.new)) out.old out.new }
     {
         self.put_first(out);
         self.go_to_next_copy();
@@ -35,7 +36,8 @@ impl Parts {
     /// Puts the record of the counts behind the bytes of a buffer. All was told.
     pub fn put_end(&mut self, out: &mut TextBuffer)
         requires { length out.old ≤ 65536 }
-        ensures { Appends (λ bytes. IsEndWritten bytes (gated self.old) (gated self.new)) out.old out.new }
+        ensures { Appends (λ bytes.
+            IsEndWritten bytes (gated self.old) (gated self.new)) out.old out.new }
     {
         let shown = Shown::End {
             counts: self.counts,
@@ -87,7 +89,11 @@ impl Parts {
         requires told { (gated self.now).telling ≡ telling.Run index lost self.now.run }
         requires placed { IsPlaced self.now.routes (gated self.now).telling self.now.place }
         ensures { copies_left (gated self.now)
-            ≡ record { shown = shown.Run result.0 result.1 lost self.now.run; payload = payload_of (packet_in self.now.empty.items) } ∷ copies_behind (gated self.now) }
+            ≡ record {
+              shown = shown.Run result.0 result.1 lost self.now.run;
+              payload = payload_of
+                  (packet_in self.now.empty.items);
+            } ∷ copies_behind (gated self.now) }
     {
         (
             self.routes.stream(index),
@@ -100,7 +106,8 @@ impl Parts {
         requires told { (gated self.now).telling ≡ telling.Version index }
         requires placed { IsPlaced self.now.routes (gated self.now).telling self.now.place }
         ensures { copies_left (gated self.now)
-            ≡ record { shown = result; payload = packet_in self.now.empty.items } ∷ copies_behind (gated self.now) }
+            ≡ record { shown = result; payload = packet_in self.now.empty.items } ∷ copies_behind
+            (gated self.now) }
     {
         Shown::Version {
             port: self.routes.port(index, self.place),
@@ -136,7 +143,9 @@ impl Parts {
         requires placed { IsPlaced self.now.routes (gated self.now).telling self.now.place }
         ensures number { result ≡ number_of_copies self.now.routes (gated self.now).telling }
         ensures more { (gated self.now).telling ≢ telling.Nothing → self.now.place < result }
-        ensures copies { (packet : List ℕ) → length (copies self.now.routes (items_in self.now.routes packet (gated self.now).telling)) ≡ result }
+        ensures copies { (packet : List ℕ)
+            → length (copies self.now.routes
+            (items_in self.now.routes packet (gated self.now).telling)) ≡ result }
     {
         match self.telling {
             Telling::Nothing => 0,

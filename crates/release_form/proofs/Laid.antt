@@ -6,8 +6,8 @@ use borrow.Rule.Slice.PartMut.{put_mid}
 use Rattle.vrt_words.specs.Words.{words_of}
 use Rattle.vrt_words.proofs.WordLaws.{words_of-append, same_later}
 use Rattle.vrt_time.specs.Time.{TimeStamp, IsStamp, stamp_of}
-use Rattle.sample_binder.specs.declared.run.Run.{Run}
-use Rattle.sample_binder.specs.declared.run.Run.TheVariants.{Bound, Uncertain, Raw}
+use Rattle.sample_binder.specs.declared.out.Run.{Run}
+use Rattle.sample_binder.specs.declared.out.Run.TheVariants.{Bound, Uncertain, Raw}
 use Rattle.release_form.specs.Positions.{word, double, quadruple}
 use Rattle.release_form.specs.Rules.{Obeys}
 use Rattle.release_form.specs.Layout.{IsLaidOut, IsLateStampAt, IsOfStream, IsPortAt, IsStampAt, kind_of, front_of}

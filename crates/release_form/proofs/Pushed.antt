@@ -7,8 +7,8 @@ use Rattle.sample_unpack.specs.Bits.{bits_of_bytes}
 use Rattle.sample_unpack.specs.Samples.{LieWithin, bits_of_sample, bits_of_samples, samples_from}
 use Rattle.sample_unpack.proofs.Bits.{bits_of_bytes-append}
 use Rattle.sample_unpack.proofs.Samples.{samples_from-add}
-use Rattle.sample_binder.specs.declared.run.Run.{Run}
-use Rattle.sample_binder.specs.declared.run.Run.TheVariants.{Bound, Uncertain, Raw}
+use Rattle.sample_binder.specs.declared.out.Run.{Run}
+use Rattle.sample_binder.specs.declared.out.Run.TheVariants.{Bound, Uncertain, Raw}
 use Rattle.release_form.specs.Front.{front_words, IsTyped}
 use Rattle.release_form.specs.Layout.{front_of, front_of_run}
 use Rattle.release_form.specs.Rules.{Obeys}

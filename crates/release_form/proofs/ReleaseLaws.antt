@@ -6,8 +6,8 @@ use Rattle.vrt_words.proofs.WordLaws.{words_of-take}
 use Rattle.vrt_time.specs.Time.{TimeStamp}
 use Rattle.sample_binder.specs.declared.reason.Reason.{Reason}
 use Rattle.sample_binder.specs.declared.reason.Reason.TheVariants.{BeforeFirst, ContextLost, PendingFull, TimelineFull, Ended, FormatChanged, Shape}
-use Rattle.sample_binder.specs.declared.run.Run.{Run}
-use Rattle.sample_binder.specs.declared.run.Run.TheVariants.{Bound, Uncertain, Raw}
+use Rattle.sample_binder.specs.declared.out.Run.{Run}
+use Rattle.sample_binder.specs.declared.out.Run.TheVariants.{Bound, Uncertain, Raw}
 use Rattle.release_form.specs.Rules.{ObeysRefused}
 use Rattle.release_form.specs.Refusals.{refusal_number}
 use Rattle.release_form.specs.declared.refusal.Refusal.{Refusal as Why}

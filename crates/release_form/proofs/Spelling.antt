@@ -8,8 +8,8 @@ use Rattle.vrt_words.proofs.WordLaws.{words_of-take, words_of-words, length-word
 use Rattle.vrt_time.specs.Time.{TimeStamp}
 use Rattle.sample_unpack.specs.Bits.{bits_of, bits_of_bytes, number_of}
 use Rattle.sample_unpack.proofs.Bits.{number_of-bits_of, length-bits_of, bits_of_bytes-cons, length-bits_of_bytes}
-use Rattle.sample_binder.specs.declared.run.Run.{Run}
-use Rattle.sample_binder.specs.declared.run.Run.TheVariants.{Bound, Uncertain, Raw}
+use Rattle.sample_binder.specs.declared.out.Run.{Run}
+use Rattle.sample_binder.specs.declared.out.Run.TheVariants.{Bound, Uncertain, Raw}
 use Rattle.release_form.specs.Positions.{word, double, quadruple, stamp_at}
 use Rattle.release_form.specs.Layout.{front_of, IsLateStampAt}
 use Rattle.release_form.specs.Release.{IsRelease, IsRecordOf, IsPartOf, IsPartOfRun, as_read}

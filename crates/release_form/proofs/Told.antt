@@ -5,7 +5,7 @@ use Rattle.vrt_time.specs.Time.{TimeStamp, capture_at}
 use Rattle.vrt_fields.specs.declared.field.Field.TheVariants.{SampleRate}
 use Rattle.difi_context.specs.Context.{field_of}
 use Rattle.sample_binder.specs.declared.reason.Reason.{Reason}
-use Rattle.sample_binder.specs.declared.run.Run.TheVariants.{Bound, Uncertain, Raw}
+use Rattle.sample_binder.specs.declared.out.Run.TheVariants.{Bound, Uncertain, Raw}
 use Rattle.release_form.specs.Positions.{word, double, quadruple, stamp_at}
 use Rattle.vrt_fields.specs.FieldWords.{AreFields}
 use Rattle.release_form.specs.Rules.{ObeysRefused}

@@ -4,8 +4,8 @@ use Rattle.std.specs.Prelude.{◌≡◌, ℕ, ◌+◌, ◌<◌, ◌^◌, List, [
 use Rattle.vrt_words.specs.Words.{words_of}
 use Rattle.vrt_time.specs.Time.{TimeStamp, stamp_of}
 use Rattle.sample_binder.specs.declared.reason.Reason.{Reason}
-use Rattle.sample_binder.specs.declared.run.Run.{Run}
-use Rattle.sample_binder.specs.declared.run.Run.TheVariants.{Bound, Uncertain, Raw}
+use Rattle.sample_binder.specs.declared.out.Run.{Run}
+use Rattle.sample_binder.specs.declared.out.Run.TheVariants.{Bound, Uncertain, Raw}
 use Rattle.release_form.specs.Positions.{word, double, quadruple, stamp_at}
 use Rattle.sample_binder.specs.Reasons.{number_of, detail_of}
 use Rattle.release_form.specs.declared.shown.Shown.{Shown}
@@ -52,7 +52,7 @@ pub record IsReasonAt (reason : Reason) (bytes : List ℕ) (i : ℕ) : Type 0 wh
   pub detail_is : detail_of reason ≡ word bytes (i + 1)
 
 -- samples that are read have 16 bits
-pub record IsBound (stamp : TimeStamp) (first number moment : ℕ) (fields : List ℕ) (bits : ℕ) (bytes : List ℕ) : Type 0 where
+pub record IsBoundRun (stamp : TimeStamp) (first number moment : ℕ) (fields : List ℕ) (bits : ℕ) (bytes : List ℕ) : Type 0 where
   pub stamp_is : IsStampAt stamp bytes 5
   pub first_is : first ≡ word bytes 8
   pub number_is : number ≡ word bytes 9
@@ -74,7 +74,7 @@ pub record IsRaw (reason : Reason) (stamp : TimeStamp) (pad : ℕ) (bytes : List
   pub pad_is : pad ≡ word bytes 10
 
 abbrev pub IsRunLaidOut : Run → List ℕ → Type 0
-IsRunLaidOut (Bound stamp first number moment fields bits) bytes = IsBound stamp first number moment fields bits bytes
+IsRunLaidOut (Bound stamp first number moment fields bits) bytes = IsBoundRun stamp first number moment fields bits bytes
 IsRunLaidOut (Uncertain reason stamp first number moment bits) bytes = IsUncertain reason stamp first number moment bits bytes
 IsRunLaidOut (Raw reason stamp pad) bytes = IsRaw reason stamp pad bytes
 
@@ -90,7 +90,7 @@ abbrev pub IsLateStampAt : Option TimeStamp → List ℕ → ℕ → Type 0
 IsLateStampAt None bytes i = stamp_at bytes i ≡ stamp_of 0 0
 IsLateStampAt (Some stamp) bytes i = IsStampAt stamp bytes i
 
-pub record IsRefused (frame port reason detail : ℕ) (stamp : Option TimeStamp) (bytes : List ℕ) : Type 0 where
+pub record IsRefusedFrame (frame port reason detail : ℕ) (stamp : Option TimeStamp) (bytes : List ℕ) : Type 0 where
   pub frame_is : frame ≡ double bytes 2
   pub port_is : IsPortAt port bytes 4
   pub reason_is : reason ≡ word bytes 5
@@ -100,7 +100,7 @@ pub record IsRefused (frame port reason detail : ℕ) (stamp : Option TimeStamp)
 abbrev pub IsLaidOut : Shown → List ℕ → Type 0
 IsLaidOut (ARun stream port lost run) bytes = IsOfStream stream port lost run bytes
 IsLaidOut (Ack port) bytes = IsPortAt port bytes 2
-IsLaidOut (Refused frame port reason detail stamp) bytes = IsRefused frame port reason detail stamp bytes
+IsLaidOut (Refused frame port reason detail stamp) bytes = IsRefusedFrame frame port reason detail stamp bytes
 IsLaidOut (Version port) bytes = IsPortAt port bytes 2
 IsLaidOut (End counts) bytes =
     counts ≡ double bytes 2 ∷ double bytes 4 ∷ double bytes 6 ∷ double bytes 8 ∷ double bytes 10 ∷ double bytes 12 ∷ double bytes 14 ∷ []

@@ -1,7 +1,7 @@
 -- How long the variable part of a release record is, and the whole of it.
 use Rattle.std.specs.Prelude.{◌≡◌, ℕ, ◌+◌, ◌*◌, ◌≤◌, ◌^◌}
-use Rattle.sample_binder.specs.declared.run.Run.{Run}
-use Rattle.sample_binder.specs.declared.run.Run.TheVariants.{Bound, Uncertain, Raw}
+use Rattle.sample_binder.specs.declared.out.Run.{Run}
+use Rattle.sample_binder.specs.declared.out.Run.TheVariants.{Bound, Uncertain, Raw}
 use Rattle.sample_binder.specs.RunRules.{AreWholeWords, GoesWithRun}
 use Rattle.release_form.specs.Layout.{front_of}
 use Rattle.release_form.specs.declared.shown.Shown.{Shown}

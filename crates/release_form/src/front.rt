@@ -11,8 +11,8 @@ use sample_binder::{Reason, Run};
 use vrt_time::{Moment, Stamp};
 use vrt_words::put_words;
 
-/// Writes the words in front of the variable part: the kind, the length of what follows, and the fixed
-/// positions. All other bytes stay.
+/// Writes the words in front of the variable part: the kind, the length of what follows, and the
+/// fixed positions. All other bytes stay.
 pub(crate) fn put_front(shown: &Shown, body: u32, into: &mut [u8])
     requires { front_of shown.now ≤ length into.old }
     ensures words { words_of (take (front_of shown.now) into.new) ≡ front_words shown.now body }
@@ -45,7 +45,8 @@ pub(crate) fn put_front(shown: &Shown, body: u32, into: &mut [u8])
     }
 }
 
-/// The same for a run.
+/// Writes the words in front of the variable part of a run, as `put_front` does. All other bytes
+/// stay.
 pub(crate) fn put_front_of_run(
     stream: u32,
     port: u16,
@@ -55,7 +56,8 @@ pub(crate) fn put_front_of_run(
     into: &mut [u8],
 )
     requires { front_of_run run.now ≤ length into.old }
-    ensures words { words_of (take (front_of_run run.now) into.new) ≡ front_words (shown.Run stream port lost run.now) body }
+    ensures words { words_of (take (front_of_run run.now) into.new)
+        ≡ front_words (shown.Run stream port lost run.now) body }
     ensures behind { drop (front_of_run run.now) into.new ≡ drop (front_of_run run.now) into.old }
     ensures typed { IsTyped (shown.Run stream port lost run.now) }
 {
@@ -81,7 +83,8 @@ fn kind_of(run: &Run) -> u32
 // The positions of a run behind its stream, its port and the number lost.
 fn put_run(run: &Run, into: &mut [u8])
     requires { front_of_run run.now ≤ length into.old }
-    ensures words { words_of (take (front_of_run run.now) into.new) ≡ words_of (take 20 into.old) ++ run_words run.now }
+    ensures words { words_of (take (front_of_run run.now) into.new)
+        ≡ words_of (take 20 into.old) ++ run_words run.now }
     ensures behind { drop (front_of_run run.now) into.new ≡ drop (front_of_run run.now) into.old }
     ensures typed { IsTypedRun run.now }
 {
@@ -120,7 +123,8 @@ fn put_run(run: &Run, into: &mut [u8])
 fn put_span(into: &mut [u8], position: usize, stamp: &Stamp, samples: [u32; 2], at: &Moment)
     requires { 4 * (position + 9) ≤ length into.old }
     ensures words { words_of (take (4 * (position + 9)) into.new)
-        ≡ words_of (take (4 * position) into.old) ++ (parts_of stamp.now ++ (samples ++ moment_words at.now)) }
+        ≡ words_of (take (4 * position) into.old)
+        ++ (parts_of stamp.now ++ (samples ++ moment_words at.now)) }
     ensures behind { (n : ℕ) → 4 * (position + 9) ≤ n → drop n into.new ≡ drop n into.old }
     ensures typed { IsStamp stamp.now }
 {
@@ -164,7 +168,8 @@ fn put_refused(
 // Seven numbers.
 fn put_counts(counts: &[u64; 7], into: &mut [u8])
     requires { 64 ≤ length into.old }
-    ensures words { words_of (take 64 into.new) ≡ words_of (take 8 into.old) ++ count_words counts.now }
+    ensures words { words_of (take 64 into.new)
+        ≡ words_of (take 8 into.old) ++ count_words counts.now }
     ensures behind { drop 64 into.new ≡ drop 64 into.old }
     ensures typed { length counts.now ≡ 7 }
 {
@@ -178,7 +183,8 @@ fn put_next(into: &mut [u8], position: usize, words: &[u32])
     requires { 4 * (position + length words.now) ≤ length into.old }
     ensures words { words_of (take (4 * (position + length words.now)) into.new)
         ≡ words_of (take (4 * position) into.old) ++ words.now }
-    ensures behind { (n : ℕ) → 4 * (position + length words.now) ≤ n → drop n into.new ≡ drop n into.old }
+    ensures behind { (n : ℕ) → 4 * (position + length words.now) ≤ n
+        → drop n into.new ≡ drop n into.old }
 {
     put_words(into, position, words);
 }

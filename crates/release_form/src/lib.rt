@@ -1,11 +1,9 @@
-//! The records that leave the gateway, which modems read: samples bound to their context, samples and
-//! packets without one, acknowledgements, refusals, versions, and the counts at the end.
+//! The records that leave the gateway, which modems read: samples bound to their context, samples
+//! and packets without one, acknowledgements, refusals, versions, and the counts at the end.
 #![tactic(auto)]
 
-mod decoding;
 #[cfg(test)]
 mod edge_tests;
-mod encoding;
 mod fields;
 mod front;
 mod positions;
@@ -20,11 +18,12 @@ mod shown;
 mod size;
 #[cfg(test)]
 mod tests;
+mod writing;
 
-pub use crate::decoding::decode;
-pub use crate::encoding::encode;
 pub use crate::pushing::{push_record, push_run};
+pub use crate::reading::decode;
 pub use crate::refusal::Refusal;
 pub use crate::round_trip::one_to_one;
 pub use crate::shown::Shown;
 pub use crate::size::size_of;
+pub use crate::writing::encode;

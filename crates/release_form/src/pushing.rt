@@ -19,7 +19,8 @@ const LONGEST_FRONT: usize = 132;
 /// How many samples are unpacked before they are put.
 const BLOCK: u32 = 256;
 
-/// Puts the release record of a value behind the bytes of a buffer. `bytes` are as `encode` takes them.
+/// Puts the release record of a value behind the bytes of a buffer. `bytes` are as `encode` takes
+/// them.
 ///
 /// Items of 16 bits and packets are copied once.
 pub fn push_record(shown: &Shown, bytes: &[u8], out: &mut TextBuffer)
@@ -36,7 +37,8 @@ pub fn push_record(shown: &Shown, bytes: &[u8], out: &mut TextBuffer)
     push_part(shown, bytes, out);
 }
 
-/// The same for a run of this stream, for this port.
+/// Puts the release record of a run of this stream, for this port, behind the bytes of a buffer, as
+/// `push_record` does.
 pub fn push_run(stream: u32, port: u16, lost: u8, run: &Run, payload: &[u8], out: &mut TextBuffer)
     requires obeys { Obeys (shown.Run stream port lost run.now) }
     requires given { GoesWith (shown.Run stream port lost run.now) (length payload.now) }
@@ -56,7 +58,8 @@ fn push_part(shown: &Shown, bytes: &[u8], out: &mut TextBuffer)
     requires obeys { Obeys shown.now }
     requires given { GoesWith shown.now (length bytes.now) }
     requires room { length out.old + part_size shown.now (length bytes.now) ≤ 327680 }
-    ensures { IsBehind (IsPartOf shown.now bytes.now) (part_size shown.now (length bytes.now)) out.old out.new }
+    ensures { IsBehind (IsPartOf shown.now bytes.now)
+        (part_size shown.now (length bytes.now)) out.old out.new }
 {
     match shown {
         Shown::Run { run, .. } => push_run_part(run, bytes, out),
@@ -70,7 +73,8 @@ fn push_run_part(run: &Run, payload: &[u8], out: &mut TextBuffer)
     requires obeys { ObeysRun run.now }
     requires given { GoesWithRun run.now (length payload.now) }
     requires room { length out.old + run_part_size run.now (length payload.now) ≤ 327680 }
-    ensures { IsBehind (IsPartOfRun run.now payload.now) (run_part_size run.now (length payload.now)) out.old out.new }
+    ensures { IsBehind (IsPartOfRun run.now payload.now)
+        (run_part_size run.now (length payload.now)) out.old out.new }
 {
     match run {
         Run::Bound {

@@ -1,18 +1,61 @@
-ghost use Rattle.std.specs.Prelude.{◌≡◌, ◌≢◌, ℕ, ◌+◌, ◌*◌, ◌≤◌, length, ◌↔◌, IsTrue, IfSome, IfNone};
+ghost use Rattle.std.specs.Prelude.{◌≡◌, ◌≢◌, ℕ, ◌+◌, ◌*◌, ◌≤◌, length, ◌↔◌, IsTrue, IfSome, IfNone, List, take, IsSomeAnd};
 ghost use Rattle.release_form.specs.Positions.{word};
 ghost use Rattle.sample_binder.specs.Reasons.{number_of};
-ghost use Rattle.release_form.specs.Steps.{IsReadAs, IsNoRecord, IsSource, IsSpan};
+ghost use Rattle.release_form.specs.Steps.{IsReadAs, IsNoRecord, IsSource, IsSpan, IsFirstRecord};
+ghost use Rattle.release_form.specs.Release.{StandsFirst, IsRecordOf, IsPartOf, as_read};
+ghost use Rattle.release_form.specs.declared.shown.Shown.{Shown};
 
 use crate::fields::{are_fields, is_captured};
 use crate::positions::{double_in, port_in, quadruple_in, stamp_in, word_in};
 use crate::refusal::Refusal;
 use crate::shown::Shown;
+use crate::size::front_len;
 use sample_binder::{Reason, Run};
 use vrt_time::{Moment, Stamp};
-use vrt_words::read_words;
+use vrt_words::{read_words, word_at};
 
-/// What a record says whose length is that of all the bytes. `None` exactly where they are no record.
-pub(crate) fn read(bytes: &[u8]) -> Option<Shown>
+/// The release record that stands first: what it says, its variable part and its length in bytes.
+/// The part is lent from the bytes: the samples of a run, a payload, a packet, or nothing. A run
+/// of samples has 16 bits, each sample I and then Q.
+///
+/// `None` exactly where no release record stands first. What `encode` wrote is read with the same
+/// value, but for the bits of its samples, with the same samples, payload or packet, and with its
+/// length.
+pub fn decode(bytes: &[u8]) -> Option<(Shown, &[u8], usize)>
+    ensures found { IfSome result (λ it. StandsFirst it.0 it.1.now it.2 bytes.now) }
+    ensures only { (shown : Shown) (part : List ℕ) (size : ℕ)
+        → StandsFirst shown part size bytes.now
+        → IsSomeAnd result (λ it. (it.0 ≡ shown) × (it.1.now ≡ part) × (it.2 ≡ size)) }
+    ensures none { IfNone result ((shown : Shown) (part : List ℕ) (size : ℕ)
+        → ¬ StandsFirst shown part size bytes.now) }
+
+    // What was written of a value with a payload or a packet.
+    ensures again { (shown : Shown) (payload : List ℕ) (size : ℕ) → size ≤ length bytes.now
+        → IsRecordOf shown payload (take size bytes.now)
+        → IsSomeAnd result (λ it.
+        (it.0 ≡ as_read shown) × IsPartOf shown payload it.1.now × (it.2 ≡ size)) }
+{
+    let record = first_record(bytes)?;
+    let shown = read(record)?;
+    Some((shown, &record[front_len(&shown)..], record.len()))
+}
+
+// As many bytes as the length of a record that stands first says, with it and the kind.
+fn first_record(bytes: &[u8]) -> Option<&[u8]>
+    ensures found { IfSome result (λ first. IsFirstRecord first.now bytes.now) }
+    ensures none { IfNone result ((first : List ℕ) → ¬ IsFirstRecord first bytes.now) }
+{
+    let length = word_at(bytes, 1)?;
+    let size = length as usize + 8;
+    if bytes.len() < size {
+        return None;
+    }
+    Some(&bytes[..size])
+}
+
+// What a record says whose length is that of all the bytes. `None` exactly where they are no
+// record.
+fn read(bytes: &[u8]) -> Option<Shown>
     requires there { 8 ≤ length bytes.now }
     requires length { word bytes.now 1 + 8 ≡ length bytes.now }
     ensures found { IfSome result (λ shown. IsReadAs shown bytes.now) }
@@ -239,13 +282,14 @@ fn read_source(bytes: &[u8]) -> Option<(u32, u16, u8)>
     Some((word_in(bytes, 2), port, lost as u8))
 }
 
-// The index of the first sample and the number of samples, which stand from `index` on, where as many
-// samples stand behind the front.
+// The index of the first sample and the number of samples, which stand from `index` on, where as
+// many samples stand behind the front.
 fn read_span(bytes: &[u8], index: usize, front: usize) -> Option<(u32, u32)>
     requires there { 4 * index + 8 ≤ length bytes.now }
     requires front { front ≤ length bytes.now }
     ensures found { IfSome result (λ span. IsSpan span.0 span.1 index front bytes.now) }
-    ensures none { IfNone result ((first number : ℕ) → ¬ IsSpan first number index front bytes.now) }
+    ensures none { IfNone result ((first number : ℕ)
+        → ¬ IsSpan first number index front bytes.now) }
 {
     let first = word_in(bytes, index);
     let number = word_in(bytes, index + 1);

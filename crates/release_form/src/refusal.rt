@@ -19,7 +19,8 @@ pub enum Refusal {
     Conflict,
     /// A command for another controllee.
     NotAddressed,
-    /// A command that is another one under a key that is kept; told with the first word that differs.
+    /// A command that is another one under a key that is kept; told with the first word that
+    /// differs.
     Reused,
     /// A command that can't be scheduled, since 64 are; told with their number.
     ScheduleFull,

@@ -5,8 +5,8 @@ ghost use Rattle.release_form.specs.Release.{AreSamples};
 
 use sample_unpack::widen_into;
 
-/// Writes samples first, first + 1 and so on of a payload, whose items have `bits` bits, as items of 16
-/// bits each, I before Q.
+/// Writes samples first, first + 1 and so on of a payload, whose items have `bits` bits, as items
+/// of 16 bits each, I before Q.
 pub(crate) fn put_samples(payload: &[u8], bits: u8, first: u32, number: u32, into: &mut [u8])
     requires run { HoldsRun bits first number (length payload.now) }
     requires indices { AreIndices first number }

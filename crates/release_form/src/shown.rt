@@ -10,8 +10,8 @@ pub enum Shown {
         stream: u32,
         /// The port of the stream's route.
         port: u16,
-        /// How many data packets were lost before this one, 0 to 15: told in the packet's first run,
-        /// and 0 in its others.
+        /// How many data packets were lost before this one, 0 to 15: told in the packet's first
+        /// run, and 0 in its others.
         lost: u8,
         /// The samples, and what is known of them.
         run: Run,

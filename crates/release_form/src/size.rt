@@ -10,7 +10,8 @@ use sample_binder::Run;
 pub fn size_of(shown: &Shown, bytes: usize) -> usize
     requires { IsBounded shown.now bytes }
     ensures size { result ≡ size_with shown.now bytes }
-    ensures whole { (payload written : List ℕ) → length payload ≡ bytes → IsRecordOf shown.now payload written
+    ensures whole { (payload written : List ℕ) → length payload ≡ bytes
+        → IsRecordOf shown.now payload written
         → length written ≡ result }
 {
     match shown {
@@ -33,7 +34,7 @@ pub(crate) fn front_len(shown: &Shown) -> usize
     }
 }
 
-/// The same for a run.
+/// The length of the record of a run with a payload of so many bytes, as `size_of` tells it.
 pub(crate) fn size_of_run(run: &Run, bytes: usize) -> usize
     requires { IsRunBounded run.now bytes }
     ensures { result ≡ front_of_run run.now + run_part_size run.now bytes }

@@ -16,8 +16,8 @@ use vrt_words::{put_word, put_words};
 // 1,700,000,000 s.
 const START: u32 = 0x6553_F100;
 
-// The fields of a context of 2 Hz: bandwidth 280,000 Hz, IF 70 MHz, RF 1,200 MHz, gain 10 dB, items of
-// 16 bits.
+// The fields of a context of 2 Hz: bandwidth 280,000 Hz, IF 70 MHz, RF 1,200 MHz, gain 10 dB,
+// items of 16 bits.
 const SLOW: [u32; 19] = [
     0x0000_0064,
     0x0000_0044,
@@ -40,7 +40,7 @@ const SLOW: [u32; 19] = [
     0,
 ];
 
-// The same at 2 Hz with a gain of 12 dB.
+// The fields of `SLOW` with a gain of 12 dB.
 const SLOW_AND_LOUD: [u32; 19] = [
     0x0000_0064,
     0x0000_0044,

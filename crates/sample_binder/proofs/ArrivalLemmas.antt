@@ -11,8 +11,8 @@ use Rattle.reorder_window.specs.State.{Holding, StandsFor, last_of}
 use Rattle.reorder_window.specs.Window.{AreFalling, boundary, is_late, twin, is_accepted, in_place, accepted, number_held, held, released, answer_accepted, answer_above, answer_by, answer, release, in_order, releases}
 use Rattle.reorder_window.proofs.OrderLemmas.{length-in_place}
 use Rattle.reorder_window.proofs.WindowLemmas.{accepted-more}
-use Rattle.sample_binder.specs.declared.turned.Turned.{Turned}
-use Rattle.sample_binder.specs.declared.turned.Turned.TheVariants as turned
+use Rattle.sample_binder.specs.declared.arrive.Turned.{Turned}
+use Rattle.sample_binder.specs.declared.arrive.Turned.TheVariants as turned
 use Rattle.sample_binder.specs.Calls.{behind, all_releases, outcome}
 
 off : (late : Bool) (none : Bool) → none ≡ false → (not late && none) ≡ false

@@ -23,9 +23,9 @@ use Rattle.reorder_window.specs.Window.{AreFalling, AreBelow, accepted, number_h
 use Rattle.reorder_window.proofs.WindowLaws.{every-accepted, every-release}
 use Rattle.vrt_fields.specs.declared.limits.Limits.{Limits}
 use Rattle.sample_binder.specs.Pending.{Pending}
-use Rattle.sample_binder.specs.declared.turned.Turned.{Turned}
+use Rattle.sample_binder.specs.declared.arrive.Turned.{Turned}
 use Rattle.sample_binder.specs.Arrivals.{released_list, releases_by, Takes}
-use Rattle.sample_binder.specs.Binder.{Bound, IsBound, Follows, AreContextsSeen, ArePacketsSeen, left_events, end_events}
+use Rattle.sample_binder.specs.Binder.{BinderState, IsBinderState, Follows, AreContextsSeen, ArePacketsSeen, left_events, end_events}
 use Rattle.sample_binder.specs.Calls.{Call, ContextCall, DataCall, EndCall, context_arrivals, data_arrivals, context_entry, data_entry, is_told, context_event, data_event, behind, events_by, events_from, events_of, outcome}
 use Rattle.sample_binder.specs.Events.{Event}
 use Rattle.sample_binder.specs.Given.{IsContextEntry, IsDataEntry, IsDataBytes, IsDataOf, HasDataSize, IsLater}
@@ -282,10 +282,10 @@ module _ (same : ContextRec → ContextRec → Bool) (limits : Limits) (old new 
 not_both : (b : Bool) (P : Type 0) → b ≡ false → b ≡ true → P
 not_both b P e f = absurd (cc)
 
-pub bound_context : (old : Bound) → IsBound old → old.told ≡ false → old.given < 2 ^ 63 → (new : Holding ContextRec) (state : State) (released : Option (TimeStamp × ℕ × ContextRec))
+pub bound_context : (old : BinderState) → IsBinderState old → old.told ≡ false → old.given < 2 ^ 63 → (new : Holding ContextRec) (state : State) (released : Option (TimeStamp × ℕ × ContextRec))
     → state ≡ record { pending = old.state.pending; line = with_released old.state.line released; queue = old.state.queue; leaving = old.state.leaving; ended = old.state.ended }
     → new.size ≡ old.contexts.size → AreContextsSeen old.limits.kept (old.given + 1) new (with_released old.state.line released) old.told
-    → IsBound (record { profile = old.profile; limits = old.limits; contexts = new; packets = old.packets; state = state; given = old.given + 1; told = old.told })
+    → IsBinderState (record { profile = old.profile; limits = old.limits; contexts = new; packets = old.packets; state = state; given = old.given + 1; told = old.told })
 bound_context old h off few new state released e size seen = record {
   limits = h.limits;
   context_size = size ∙ h.context_size;
@@ -297,10 +297,10 @@ bound_context old h off few new state released e size seen = record {
   at_rest = λ f g. not_both old.told (state.ended ≡ true) off f;
 }
 
-pub bound_data : (old : Bound) → IsBound old → old.told ≡ false → old.given < 2 ^ 63 → (new : Holding Buffer) (state : State) (queue : List Pending)
+pub bound_data : (old : BinderState) → IsBinderState old → old.told ≡ false → old.given < 2 ^ 63 → (new : Holding Buffer) (state : State) (queue : List Pending)
     → state ≡ record { pending = old.state.pending; line = old.state.line; queue = queue; leaving = old.state.leaving; ended = old.state.ended }
     → new.size ≡ old.packets.size → ArePacketsSeen new old.told
-    → IsBound (record { profile = old.profile; limits = old.limits; contexts = old.contexts; packets = new; state = state; given = old.given + 1; told = old.told })
+    → IsBinderState (record { profile = old.profile; limits = old.limits; contexts = old.contexts; packets = new; state = state; given = old.given + 1; told = old.told })
 bound_data old h off few new state queue e size seen =
     let s = h.seen.contexts_seen in
     let contexts : AreContextsSeen old.limits.kept (old.given + 1) old.contexts old.state.line old.told =
@@ -319,7 +319,7 @@ bound_data old h off few new state queue e size seen =
 pub grammar_of : (rec : ContextRec) (profile : PacketProfile) → IsSpelled profile rec → IsInGrammar rec
 grammar_of rec profile h = record { profile = profile; spelled = h }
 
-abbrev pub same_but : PacketProfile → Limits → Holding ContextRec → Holding Buffer → State → ℕ → Bool → Bound
+abbrev pub same_but : PacketProfile → Limits → Holding ContextRec → Holding Buffer → State → ℕ → Bool → BinderState
 same_but profile limits contexts packets state given told =
     record { profile = profile; limits = limits; contexts = contexts; packets = packets; state = state; given = given; told = told }
 

@@ -6,7 +6,7 @@ use Rattle.vrt_time.specs.Time.{TimeStamp, moment_of, capture_at}
 use Rattle.context_timeline.specs.declared.timed_context.TimedContext.{TimedContext}
 use Rattle.context_timeline.specs.Marks.{next_stamp}
 use Rattle.sample_binder.specs.declared.label.Label.{Label}
-use Rattle.sample_binder.specs.declared.sampled.Sampled.{Sampled}
+use Rattle.sample_binder.specs.declared.sampling.Sampled.{Sampled}
 use Rattle.sample_binder.specs.Runs.{same_label}
 use Rattle.sample_binder.specs.Samples.{rate_in}
 use Rattle.sample_binder.specs.Stretches.{IsPassedBy, IsStretch, GoesOn}

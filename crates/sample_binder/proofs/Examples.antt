@@ -8,7 +8,7 @@ use Rattle.sample_binder.specs.declared.out.Out.TheVariants as out
 use Rattle.sample_binder.specs.Pending.{Pending}
 use Rattle.sample_binder.specs.declared.reason.Reason.{Reason}
 use Rattle.sample_binder.specs.declared.reason.Reason.TheVariants as reason
-use Rattle.sample_binder.specs.declared.run.Run.TheVariants as run
+use Rattle.sample_binder.specs.declared.out.Run.TheVariants as run
 use Rattle.sample_binder.specs.Events.{Event, ContextEvent, DataEvent, EndEvent}
 use Rattle.sample_binder.specs.Due.{due}
 use Rattle.sample_binder.specs.Outputs.{outputs}

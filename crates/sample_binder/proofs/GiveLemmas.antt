@@ -6,23 +6,23 @@ use Rattle.context_timeline.specs.declared.mark.Mark.{Mark}
 use Rattle.context_timeline.specs.declared.mark.Mark.TheVariants as mark
 use Rattle.context_timeline.specs.State.{TimelineState, IsTimelineState, horizon_of}
 use Rattle.context_timeline.specs.Marks.{mark_in, mark_below, mark_between, last_not_after, is_below, healed, next_stamp}
-use Rattle.sample_binder.specs.declared.leaving.Leaving.{Leaving}
-use Rattle.sample_binder.specs.declared.leaving.Leaving.TheVariants as leaving
+use Rattle.sample_binder.specs.declared.give.Leaving.{Leaving}
+use Rattle.sample_binder.specs.declared.give.Leaving.TheVariants as leaving
 use Rattle.vrt_fields.specs.declared.limits.Limits.{Limits}
 use Rattle.sample_binder.specs.declared.out.Given.{Given}
 use Rattle.sample_binder.specs.declared.out.Out.{Out}
 use Rattle.sample_binder.specs.declared.out.Out.TheVariants as out
 use Rattle.sample_binder.specs.Pending.{Pending}
 use Rattle.sample_binder.specs.declared.reason.Reason.{Reason}
-use Rattle.sample_binder.specs.declared.run.Run.{Run}
-use Rattle.sample_binder.specs.declared.sampled.Sampled.{Sampled}
-use Rattle.sample_binder.specs.declared.shape.Shape.{Shape}
+use Rattle.sample_binder.specs.declared.out.Run.{Run}
+use Rattle.sample_binder.specs.declared.sampling.Sampled.{Sampled}
+use Rattle.sample_binder.specs.declared.sampling.Shape.{Shape}
 use Rattle.sample_binder.proofs.Cases.{tested}
 use Rattle.sample_binder.specs.Due.{may_leave, has_case, has_case_after, is_known, is_known_by}
 use Rattle.sample_binder.proofs.DueLaws.{may_leave-none, may_leave-next}
 use Rattle.sample_binder.specs.Events.{Event, packets_of, has_ended, line_after}
 use Rattle.sample_binder.specs.GivenOut.{out_with}
-use Rattle.sample_binder.specs.Left.{runs_left, runs_left_of, IsCut, IsLeaving, leaving_bound, leaving_by}
+use Rattle.sample_binder.specs.Left.{runs_left, runs_left_of, StartsStretch, IsLeaving, leaving_bound, leaving_by}
 use Rattle.sample_binder.specs.Outputs.{open_reason, packet_and_runs, outputs}
 use Rattle.sample_binder.proofs.OutputLaws.{first_of, more_wait}
 use Rattle.sample_binder.specs.Queue.{State, owed, is_first_due, queue_owes, first_decided, StandsFor, IsState, AreSound}
@@ -76,7 +76,7 @@ chosen_runs : (line : TimelineState) (why : Reason) (samples : Sampled) (whole :
 chosen_runs line why samples true h = h refl
 chosen_runs line why samples false h = refl
 
-chosen_leaves : (line : TimelineState) (why : Reason) (samples : Sampled) (whole : Bool) → IsCut line why samples 0 → IsLeaving line why (cond whole (leaving.Whole samples) (leaving.Cut samples 0))
+chosen_leaves : (line : TimelineState) (why : Reason) (samples : Sampled) (whole : Bool) → StartsStretch line why samples 0 → IsLeaving line why (cond whole (leaving.Whole samples) (leaving.Cut samples 0))
 chosen_leaves line why samples true h = tt
 chosen_leaves line why samples false h = h
 

@@ -12,7 +12,7 @@ use Rattle.reorder_window.specs.Window.{boundary, is_late, twin, in_place, accep
 use Rattle.reorder_window.proofs.OrderLemmas.{twin-take, length-in_place}
 use Rattle.reorder_window.proofs.WindowLemmas.{take-held, accepted-falling, accepted-more}
 use Rattle.context_timeline.specs.State.{TimelineState}
-use Rattle.sample_binder.specs.declared.turned.Turned.{Turned}
+use Rattle.sample_binder.specs.declared.arrive.Turned.{Turned}
 use Rattle.sample_binder.specs.declared.out.Out.{Out}
 use Rattle.sample_binder.specs.declared.out.Out.TheVariants as out
 use Rattle.sample_binder.specs.Pending.{Pending}

@@ -12,7 +12,7 @@ use Rattle.reorder_window.specs.Window.{accepted, number_held, releases}
 use Rattle.vrt_fields.specs.declared.limits.Limits.{Limits}
 use Rattle.sample_binder.specs.declared.out.Out.{Out}
 use Rattle.sample_binder.proofs.Cases.{tested}
-use Rattle.sample_binder.specs.Binder.{Bound, IsBound, Follows, AreContextsSeen, ArePacketsSeen, left_events, end_events}
+use Rattle.sample_binder.specs.Binder.{BinderState, IsBinderState, Follows, AreContextsSeen, ArePacketsSeen, left_events, end_events}
 use Rattle.sample_binder.specs.Calls.{Call, EndCall, context_arrivals, data_arrivals, is_told, context_event, data_event, behind, all_releases, events_by, events_of, outputs_of}
 use Rattle.sample_binder.specs.Drained.{MayDrain}
 use Rattle.sample_binder.specs.Events.{Event, EndEvent}
@@ -29,7 +29,7 @@ pub told_contexts : (kept given : ℕ) (holding : Holding ContextRec) (line : Ti
 told_contexts kept given holding line told s =
     record { arrivals = s.arrivals; drained = s.drained; stands = s.stands; undrained = λ e. absurd (cc); entries = s.entries; line_is = s.line_is; few = s.few }
 
-pub may_drain_now : (bound : Bound) → IsBound bound → MayDrain bound.contexts bound.state.line
+pub may_drain_now : (bound : BinderState) → IsBinderState bound → MayDrain bound.contexts bound.state.line
 may_drain_now bound h = record {
   kept = bound.limits.kept;
   given = bound.given;

@@ -4,9 +4,9 @@ use Rattle.std.proofs.lemmas.Bool.Decides.{nat_tests}
 use Rattle.std.proofs.lemmas.Bool.{cases_lt}
 use Rattle.context_timeline.specs.State.{TimelineState}
 use Rattle.sample_binder.specs.declared.label.Label.{Label}
-use Rattle.sample_binder.specs.declared.leaving.Leaving.TheVariants as leaving
+use Rattle.sample_binder.specs.declared.give.Leaving.TheVariants as leaving
 use Rattle.sample_binder.specs.declared.reason.Reason.{Reason}
-use Rattle.sample_binder.specs.declared.sampled.Sampled.{Sampled}
+use Rattle.sample_binder.specs.declared.sampling.Sampled.{Sampled}
 use Rattle.sample_binder.specs.Runs.{same_label, label_at, starts, or_all, next_start, cut_from, run_at}
 use Rattle.sample_binder.proofs.LabelLemmas.{same_as}
 use Rattle.sample_binder.specs.Left.{runs_left, runs_left_of, rest_from, IsLeaving}

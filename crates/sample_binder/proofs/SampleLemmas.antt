@@ -4,7 +4,7 @@ use Rattle.std.proofs.lemmas.Grind.{common_steps}
 use Rattle.std.proofs.lemmas.Bool.Decides.{nat_tests}
 use Rattle.sample_binder.proofs.Cases.{tested}
 use Rattle.sample_unpack.specs.Count.{HoldsSamples}
-use Rattle.sample_binder.specs.declared.shape.Shape.{Shape}
+use Rattle.sample_binder.specs.declared.sampling.Shape.{Shape}
 use Rattle.sample_binder.specs.Samples.{number_of, used_bits}
 
 held_test : (used size count : ℕ) → 0 < size → 0 < count → used ≡ size * count → (nat_lt 0 used && used % size == 0) ≡ true

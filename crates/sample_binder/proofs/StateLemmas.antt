@@ -11,8 +11,8 @@ use Rattle.context_timeline.specs.declared.timed_context.TimedContext.{TimedCont
 use Rattle.context_timeline.specs.State.{TimelineState, state_of, with_context, horizon_of}
 use Rattle.context_timeline.proofs.StateLaws.{state_of-push, IsTimelineState-with_context}
 use Rattle.sample_binder.specs.declared.label.Label.{Label}
-use Rattle.sample_binder.specs.declared.leaving.Leaving.{Leaving}
-use Rattle.sample_binder.specs.declared.leaving.Leaving.TheVariants as leaving
+use Rattle.sample_binder.specs.declared.give.Leaving.{Leaving}
+use Rattle.sample_binder.specs.declared.give.Leaving.TheVariants as leaving
 use Rattle.vrt_fields.specs.declared.limits.Limits.{Limits}
 use Rattle.sample_binder.specs.declared.out.Out.TheVariants as out
 use Rattle.sample_binder.specs.Pending.{Pending}

@@ -11,13 +11,13 @@ use Rattle.reorder_window.specs.Window.{is_accepted, in_place, with_arrival, acc
 use Rattle.sample_binder.specs.declared.out.Out.{Out}
 use Rattle.sample_binder.specs.declared.out.Out.TheVariants as out
 use Rattle.sample_binder.specs.Pending.{Pending}
-use Rattle.sample_binder.specs.declared.run.Run.{Run}
+use Rattle.sample_binder.specs.declared.out.Run.{Run}
 use Rattle.sample_binder.specs.Calls.{Call, ContextCall, DataCall, EndCall, data_arrivals, is_told, all_releases, events_of, outputs_of}
 use Rattle.sample_binder.specs.Due.{due}
 use Rattle.sample_binder.specs.Events.{Event, packets_of, has_ended, line_after}
 use Rattle.sample_binder.specs.Outputs.{open_reason, leaves_after, leaves_at, leaves, outputs_of_first, outputs}
 use Rattle.sample_binder.specs.Parts.{IsCallOf, AreCallsOf, payload_of, samples_of, samples_told, counted_of, counted_in, counted_told, payload_bytes}
-use Rattle.sample_binder.specs.declared.run.Run.TheVariants as run
+use Rattle.sample_binder.specs.declared.out.Run.TheVariants as run
 use Rattle.sample_binder.specs.Released.{released_packet}
 use Rattle.sample_binder.specs.Runs.{runs_of}
 use Rattle.sample_binder.proofs.EventLemmas.{every-append, every-take, IsSoundPacket, IsSoundEvent, packets_sound, events_sound}

@@ -10,7 +10,7 @@ use Rattle.reorder_window.specs.declared.arrival.Arrival.{Arrival}
 use Rattle.reorder_window.specs.declared.arrival.Arrival.TheVariants as arrival
 use Rattle.reorder_window.specs.Window.{with_arrival, accepted, in_order, releases, answer}
 use Rattle.reorder_window.proofs.WindowLemmas.{accepted-more}
-use Rattle.sample_binder.specs.declared.turned.Turned.{Turned}
+use Rattle.sample_binder.specs.declared.arrive.Turned.{Turned}
 use Rattle.sample_binder.specs.Calls.{Call, ContextCall, DataCall, EndCall, context_arrivals, data_arrivals, context_entry, data_entry, context_event, data_event, behind, events_by, events_from, events_of, outputs_of, outcome}
 use Rattle.sample_binder.specs.Events.{Event, EndEvent}
 use Rattle.sample_binder.specs.Outputs.{outputs}

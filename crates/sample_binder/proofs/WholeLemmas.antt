@@ -11,12 +11,12 @@ use Rattle.context_timeline.specs.Marks.{mark_in, is_below, next_stamp}
 use Rattle.context_timeline.proofs.PartitionLaws.{cut_of, next_stamp_cut, mark_in_cut, mark_in_later}
 use Rattle.sample_binder.specs.declared.label.Label.{Label}
 use Rattle.sample_binder.specs.declared.label.Label.TheVariants as label
-use Rattle.sample_binder.specs.declared.leaving.Leaving.TheVariants as leaving
+use Rattle.sample_binder.specs.declared.give.Leaving.TheVariants as leaving
 use Rattle.sample_binder.specs.declared.reason.Reason.{Reason}
 use Rattle.sample_binder.specs.declared.reason.Reason.TheVariants as reason
-use Rattle.sample_binder.specs.declared.run.Run.{Run}
-use Rattle.sample_binder.specs.declared.run.Run.TheVariants as run
-use Rattle.sample_binder.specs.declared.sampled.Sampled.{Sampled}
+use Rattle.sample_binder.specs.declared.out.Run.{Run}
+use Rattle.sample_binder.specs.declared.out.Run.TheVariants as run
+use Rattle.sample_binder.specs.declared.sampling.Sampled.{Sampled}
 use Rattle.sample_binder.specs.Left.{runs_left, runs_left_of}
 use Rattle.sample_binder.specs.Runs.{same_sampling, label_by, label_at, run_by}
 use Rattle.sample_binder.specs.Samples.{rate_in, size_in}

@@ -4,7 +4,7 @@ use Rattle.vrt_time.specs.Time.{TimeStamp}
 use Rattle.reorder_window.specs.declared.entry.Entry.{Entry}
 use Rattle.reorder_window.specs.State.{Holding, StandsFor}
 use Rattle.reorder_window.specs.Window.{answer, releases}
-use Rattle.sample_binder.specs.declared.turned.Turned.{Turned}
+use Rattle.sample_binder.specs.declared.arrive.Turned.{Turned}
 use Rattle.sample_binder.specs.Calls.{outcome}
 
 abbrev pub released_list : {T : Type 0} → Option (TimeStamp × ℕ × T) → List (TimeStamp × ℕ × T)

@@ -11,7 +11,7 @@ use Rattle.reorder_window.specs.State.{Holding}
 use Rattle.reorder_window.specs.Window.{accepted, releases}
 use Rattle.vrt_fields.specs.declared.limits.Limits.{Limits}
 use Rattle.vrt_fields.specs.Limits.{AreLimits}
-use Rattle.sample_binder.specs.declared.turned.Turned.{Turned}
+use Rattle.sample_binder.specs.declared.arrive.Turned.{Turned}
 use Rattle.sample_binder.specs.Calls.{Call, context_arrivals, data_arrivals, is_told, context_event, data_event, behind, all_releases, events_of}
 use Rattle.sample_binder.specs.Events.{Event, EndEvent}
 use Rattle.sample_binder.specs.Given.{IsContextEntry, IsDataEntry}
@@ -21,7 +21,7 @@ use Rattle.sample_binder.specs.Released.{released_context}
 
 -- what it was opened with, the two windows, the timeline and the packets that wait, how many packets it has taken, and
 -- whether the end was told
-pub record Bound : Type 0 where
+pub record BinderState : Type 0 where
   pub profile : PacketProfile
   pub limits : Limits
   pub contexts : Holding ContextRec
@@ -31,7 +31,7 @@ pub record Bound : Type 0 where
   pub told : Bool
 
 -- how many data packets it keeps: those that the window holds, and those that wait
-abbrev pub number_kept : Bound → ℕ
+abbrev pub number_kept : BinderState → ℕ
 number_kept bound = length bound.packets.held + length bound.state.queue
 
 -- the events that are left after the end was told: what the windows still hold, and the end
@@ -60,7 +60,7 @@ pub record Follows (limits : Limits) (contexts : Holding ContextRec) (packets : 
   pub queue_stands : queue.StandsFor state limits done taken
   pub left : done ++ left_events limits calls contexts_drained packets_drained state.ended ≡ events_of limits calls
 
-abbrev pub StandsFor : Bound → List Call → ℕ → Type 0
+abbrev pub StandsFor : BinderState → List Call → ℕ → Type 0
 StandsFor bound calls taken = Follows bound.limits bound.contexts bound.packets bound.state bound.told calls taken
 
 -- the contexts that arrived are in the grammar, and the timeline is that of those that were released
@@ -85,7 +85,7 @@ pub record AreSeen (kept given : ℕ) (contexts : Holding ContextRec) (packets :
   pub packets_seen : ArePacketsSeen packets told
 
 -- what is true of every binder. Once the end was told, something is owed, or the end has come.
-pub record IsBound (bound : Bound) : Type 0 where
+pub record IsBinderState (bound : BinderState) : Type 0 where
   pub limits : AreLimits bound.limits
   pub context_size : bound.contexts.size ≡ bound.limits.context_window
   pub data_size : bound.packets.size ≡ bound.limits.data_window
@@ -105,7 +105,7 @@ without_release (Ok released) = Ok tt
 without_release (Err e) = Err e
 
 -- what stays while packets are given
-pub record SameBinder (old new : Bound) : Type 0 where
+pub record SameBinder (old new : BinderState) : Type 0 where
   pub profile : new.profile ≡ old.profile
   pub limits : new.limits ≡ old.limits
   pub told : new.told ≡ old.told

@@ -12,9 +12,9 @@ use Rattle.reorder_window.specs.Window.{accepted, in_order, releases}
 use Rattle.vrt_fields.specs.declared.limits.Limits.{Limits}
 use Rattle.sample_binder.specs.declared.front.Front.{Front}
 use Rattle.sample_binder.specs.declared.out.Out.{Out}
-use Rattle.sample_binder.specs.declared.shape.Shape.{Shape}
-use Rattle.sample_binder.specs.declared.turned.Turned.{Turned}
-use Rattle.sample_binder.specs.declared.turned.Turned.TheVariants as turned
+use Rattle.sample_binder.specs.declared.sampling.Shape.{Shape}
+use Rattle.sample_binder.specs.declared.arrive.Turned.{Turned}
+use Rattle.sample_binder.specs.declared.arrive.Turned.TheVariants as turned
 use Rattle.sample_binder.specs.Events.{Event, ContextEvent, DataEvent, EndEvent}
 use Rattle.sample_binder.specs.Outputs.{outputs}
 

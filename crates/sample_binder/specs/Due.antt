@@ -7,7 +7,7 @@ use Rattle.context_timeline.specs.State.{TimelineState, horizon_of}
 use Rattle.context_timeline.specs.Marks.{mark_in, is_below}
 use Rattle.vrt_fields.specs.declared.limits.Limits.{Limits}
 use Rattle.sample_binder.specs.Pending.{Pending}
-use Rattle.sample_binder.specs.declared.shape.Shape.{Shape}
+use Rattle.sample_binder.specs.declared.sampling.Shape.{Shape}
 use Rattle.sample_binder.specs.Events.{Event, packets_of, has_ended, line_after}
 use Rattle.sample_binder.specs.Samples.{size_in, number_of, captured}
 

@@ -4,7 +4,7 @@ use Rattle.sample_binder.specs.declared.out.Given.{Given}
 use Rattle.sample_binder.specs.declared.out.Given.TheVariants as given
 use Rattle.sample_binder.specs.declared.out.Out.{Out}
 use Rattle.sample_binder.specs.declared.out.Out.TheVariants as out
-use Rattle.sample_binder.specs.declared.run.Run.{Run}
+use Rattle.sample_binder.specs.declared.out.Run.{Run}
 
 -- a packet, or the run that stands there
 abbrev pub out_by : Given → Run → Out

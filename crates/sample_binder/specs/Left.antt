@@ -5,14 +5,14 @@ use Rattle.context_timeline.specs.declared.mark.Mark.TheVariants as mark
 use Rattle.context_timeline.specs.State.{TimelineState}
 use Rattle.context_timeline.specs.Marks.{is_below, next_stamp}
 use Rattle.vrt_time.specs.Time.{moment_of, capture_at}
-use Rattle.sample_binder.specs.declared.leaving.Leaving.{Leaving}
-use Rattle.sample_binder.specs.declared.leaving.Leaving.TheVariants as leaving
+use Rattle.sample_binder.specs.declared.give.Leaving.{Leaving}
+use Rattle.sample_binder.specs.declared.give.Leaving.TheVariants as leaving
 use Rattle.sample_binder.specs.declared.reason.Reason.{Reason}
 use Rattle.sample_binder.specs.declared.reason.Reason.TheVariants as reason
-use Rattle.sample_binder.specs.declared.run.Run.{Run}
-use Rattle.sample_binder.specs.declared.run.Run.TheVariants as run
-use Rattle.sample_binder.specs.declared.sampled.Sampled.{Sampled}
-use Rattle.sample_binder.specs.declared.shape.Shape.{Shape}
+use Rattle.sample_binder.specs.declared.out.Run.{Run}
+use Rattle.sample_binder.specs.declared.out.Run.TheVariants as run
+use Rattle.sample_binder.specs.declared.sampling.Sampled.{Sampled}
+use Rattle.sample_binder.specs.declared.sampling.Shape.{Shape}
 use Rattle.sample_binder.specs.Due.{is_closed, is_known_by}
 use Rattle.sample_binder.specs.Samples.{rate_in, size_in, number_of}
 use Rattle.sample_binder.specs.Runs.{label_at, starts, cut_from, run_at}
@@ -34,7 +34,7 @@ abbrev pub rest_from : Sampled → ℕ → Option Leaving
 rest_from samples first = if nat_lt first samples.number then Some (leaving.Cut samples first) else None
 
 -- a stretch starts at the first that is left
-pub record IsCut (line : TimelineState) (why : Reason) (samples : Sampled) (first : ℕ) : Type 0 where
+pub record StartsStretch (line : TimelineState) (why : Reason) (samples : Sampled) (first : ℕ) : Type 0 where
   pub sampling : HasSampling samples.fields
   pub there : first < samples.number
   pub start : starts (label_at line why samples.stamp samples.fields) first ≡ true
@@ -42,7 +42,7 @@ pub record IsCut (line : TimelineState) (why : Reason) (samples : Sampled) (firs
 abbrev pub IsLeaving : TimelineState → Reason → Leaving → Type 0
 IsLeaving line why (leaving.Raw reason stamp pad) = Unit {0}
 IsLeaving line why (leaving.Whole samples) = Unit {0}
-IsLeaving line why (leaving.Cut samples first) = IsCut line why samples first
+IsLeaving line why (leaving.Cut samples first) = StartsStretch line why samples first
 
 -- the packet as a whole
 abbrev pub raw_of : Reason → Shape → Leaving

@@ -6,8 +6,8 @@ use Rattle.vrt_header.specs.Profile.{PacketProfile}
 use Rattle.difi_context.specs.Context.{IsSpelled}
 use Rattle.sample_binder.specs.declared.out.Out.{Out}
 use Rattle.sample_binder.specs.declared.out.Out.TheVariants as out
-use Rattle.sample_binder.specs.declared.run.Run.{Run}
-use Rattle.sample_binder.specs.declared.run.Run.TheVariants as run
+use Rattle.sample_binder.specs.declared.out.Run.{Run}
+use Rattle.sample_binder.specs.declared.out.Run.TheVariants as run
 use Rattle.sample_binder.specs.Calls.{Call, ContextCall, DataCall, EndCall}
 use Rattle.sample_binder.specs.Given.{IsDataOf, HasDataSize}
 use Rattle.sample_binder.specs.RunRules.{IsWritable}

@@ -2,7 +2,7 @@
 -- packets lost before it.
 use Rattle.std.specs.Prelude.{ℕ}
 use Rattle.vrt_words.specs.Buffer.{Buffer}
-use Rattle.sample_binder.specs.declared.shape.Shape.{Shape}
+use Rattle.sample_binder.specs.declared.sampling.Shape.{Shape}
 
 pub record Pending : Type 0 where
   pub buf : Buffer

@@ -4,12 +4,12 @@ use Rattle.context_timeline.specs.declared.timed_context.TimedContext.{TimedCont
 use Rattle.context_timeline.specs.State.{TimelineState, IsTimelineState}
 use Rattle.context_timeline.specs.Marks.{mark_in}
 use Rattle.vrt_time.specs.Time.{moment_of}
-use Rattle.sample_binder.specs.declared.leaving.Leaving.{Leaving}
+use Rattle.sample_binder.specs.declared.give.Leaving.{Leaving}
 use Rattle.vrt_fields.specs.declared.limits.Limits.{Limits}
 use Rattle.sample_binder.specs.declared.out.Out.{Out}
 use Rattle.sample_binder.specs.declared.out.Out.TheVariants as out
 use Rattle.sample_binder.specs.Pending.{Pending}
-use Rattle.sample_binder.specs.declared.shape.Shape.{Shape}
+use Rattle.sample_binder.specs.declared.sampling.Shape.{Shape}
 use Rattle.sample_binder.specs.Due.{is_known, has_case_after, may_leave}
 use Rattle.sample_binder.specs.Events.{Event, packets_of, has_ended, line_after}
 use Rattle.sample_binder.specs.Left.{runs_left_of, IsLeaving, decided}

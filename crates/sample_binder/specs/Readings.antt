@@ -1,4 +1,4 @@
--- The same in other words: what events bring, what a due event is, what the stretches of a packet are, and what is read of a data packet.
+-- Definitions said again in other words: what events bring, what a due event is, what the stretches of a packet are, and what is read of a data packet.
 use Rattle.std.specs.Prelude.{◌≡◌, ◌⊎◌, ℕ, zero, suc, ◌+◌, ◌*◌, ◌<◌, ◌≤◌, true, false, List, [], ◌∷◌, ◌++◌, length, map, Some}
 use Rattle.difi_data.specs.Data.{DataPacket}
 use Rattle.sample_binder.specs.declared.label.Label.{Label}

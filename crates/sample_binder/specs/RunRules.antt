@@ -5,8 +5,8 @@ use Rattle.vrt_fields.specs.FieldWords.{AreFields, field_of}
 use Rattle.vrt_fields.specs.declared.field.Field.TheVariants.{SampleRate}
 use Rattle.sample_unpack.specs.Samples.{LieWithin}
 use Rattle.sample_binder.specs.declared.reason.Reason.{Reason}
-use Rattle.sample_binder.specs.declared.run.Run.{Run}
-use Rattle.sample_binder.specs.declared.run.Run.TheVariants.{Bound, Uncertain, Raw}
+use Rattle.sample_binder.specs.declared.out.Run.{Run}
+use Rattle.sample_binder.specs.declared.out.Run.TheVariants.{Bound, Uncertain, Raw}
 use Rattle.sample_binder.specs.Reasons.{number_of, IsInTable}
 
 -- there is a sample, and the indices of all are numbers of 32 bits

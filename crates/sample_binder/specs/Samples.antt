@@ -2,7 +2,7 @@
 use Rattle.std.specs.Prelude.{ℕ, ◌-◌, ◌*◌, ◌/◌, ◌%◌, ◌==◌, ◌&&◌, nat_lt, if◌then◌else◌, List, Option, Some, None}
 use Rattle.vrt_time.specs.Time.{capture_at}
 pub use Rattle.vrt_fields.specs.FieldWords.{rate_in, size_in}
-use Rattle.sample_binder.specs.declared.shape.Shape.{Shape}
+use Rattle.sample_binder.specs.declared.sampling.Shape.{Shape}
 
 -- the bits of a payload that are used
 abbrev pub used_bits : Shape → ℕ

@@ -1,7 +1,7 @@
 -- One step of a queue.
 use Rattle.std.specs.Prelude.{◌≡◌, ℕ, Bool, List, ◌∷◌, Option, Some}
 use Rattle.context_timeline.specs.State.{TimelineState}
-use Rattle.sample_binder.specs.declared.leaving.Leaving.{Leaving}
+use Rattle.sample_binder.specs.declared.give.Leaving.{Leaving}
 use Rattle.sample_binder.specs.declared.out.Out.{Out}
 use Rattle.sample_binder.specs.declared.out.Out.TheVariants as out
 use Rattle.sample_binder.specs.Pending.{Pending}

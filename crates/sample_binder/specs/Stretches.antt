@@ -2,7 +2,7 @@
 use Rattle.std.specs.Prelude.{◌≡◌, ◌⊎◌, ℕ, ◌<◌, ◌≤◌, true, false, Option, Some, None}
 use Rattle.vrt_time.specs.Time.{TimeStamp, moment_of, capture_at}
 use Rattle.sample_binder.specs.declared.label.Label.{Label}
-use Rattle.sample_binder.specs.declared.sampled.Sampled.{Sampled}
+use Rattle.sample_binder.specs.declared.sampling.Sampled.{Sampled}
 use Rattle.sample_binder.specs.Samples.{rate_in}
 use Rattle.sample_binder.specs.Runs.{same_label}
 

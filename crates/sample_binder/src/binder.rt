@@ -9,14 +9,11 @@ ghost use Rattle.sample_binder.specs.Given.{IsDataOf};
 ghost use Rattle.vrt_fields.specs.Limits.{AreLimits};
 ghost use Rattle.sample_binder.specs.Binder.{StandsFor, SameBinder, number_kept, without_packet, without_release};
 
-use crate::arrive::{arrive_context, arrive_data};
-use crate::binding::Binding;
+use crate::arrive::{Turned, arrive_context, arrive_data};
+use crate::binding::{Binding, give_context, give_data};
 use crate::drain::{advance, go_on};
 use crate::front::{Front, front_of};
-use crate::out::{Given, Out};
-use crate::release::{give_context, give_data};
-use crate::run::Run;
-use crate::turned::Turned;
+use crate::out::{Given, Out, Run};
 use difi_context::ContextRec;
 use reorder_window::{HeldItem, Window};
 use std::alloc::Global;
@@ -41,13 +38,29 @@ pub struct Binder {
 }
 
 impl Model for Binder {
-    ghost use Rattle.sample_binder.specs.Binder.{Bound, IsBound};
+    ghost use Rattle.sample_binder.specs.Binder.{BinderState, IsBinderState};
 
-    ghost Value = { Bound };
+    ghost Value = { BinderState };
 
-    ghost view = { λ b. record { profile = b.profile; limits = b.limits; contexts = b.contexts; packets = b.packets; state = b.binding; given = b.given; told = b.told } };
+    ghost view = { λ b. record {
+      profile = b.profile;
+      limits = b.limits;
+      contexts = b.contexts;
+      packets = b.packets;
+      state = b.binding;
+      given = b.given;
+      told = b.told;
+    } };
 
-    ghost invariant = { λ b. IsBound (record { profile = b.profile; limits = b.limits; contexts = b.contexts; packets = b.packets; state = b.binding; given = b.given; told = b.told }) };
+    ghost invariant = { λ b. IsBinderState (record {
+      profile = b.profile;
+      limits = b.limits;
+      contexts = b.contexts;
+      packets = b.packets;
+      state = b.binding;
+      given = b.given;
+      told = b.told;
+    }) };
 }
 
 impl Binder {
@@ -55,7 +68,9 @@ impl Binder {
     pub fn open(alloc: Global, profile: Profile, limits: Limits) -> Result<Binder, NoMemory>
         requires { AreLimits limits }
         ensures stands { IfOk result (λ binder. StandsFor binder [] 0) }
-        ensures fields { IfOk result (λ binder. (binder.profile ≡ profile) × (binder.limits ≡ limits) × (binder.given ≡ 0) × (binder.told ≡ false)) }
+        ensures fields { IfOk result (λ binder.
+            (binder.profile ≡ profile) × (binder.limits ≡ limits) × (binder.given ≡ 0)
+            × (binder.told ≡ false)) }
         ensures nothing { IfOk result (λ binder. owed binder.state ≡ []) }
         ensures none_kept { IfOk result (λ binder. number_kept binder ≡ 0) }
     {
@@ -89,8 +104,10 @@ impl Binder {
         requires nothing { owed self.old.state ≡ [] }
         requires untold { self.old.told ≡ false }
         requires few { self.old.given < 2 ^ 63 }
-        ensures answer { (calls : List Call) (taken : ℕ) → StandsFor self.old calls taken → result ≡ without_packet (outcome
-            (answer ⟦<ContextRec as HeldItem>⟧.is_same self.old.limits.context_window (context_arrivals calls) (context_entry rec))) }
+        ensures answer { (calls : List Call) (taken : ℕ) → StandsFor self.old calls taken
+            → result ≡ without_packet (outcome
+            (answer ⟦<ContextRec as HeldItem>⟧.is_same self.old.limits.context_window
+            (context_arrivals calls) (context_entry rec))) }
         ensures stands { (calls : List Call) (taken : ℕ) → StandsFor self.old calls taken
             → StandsFor self.new (calls ++ ContextCall rec ∷ []) taken }
         ensures kept { SameBinder self.old self.new }
@@ -117,8 +134,10 @@ impl Binder {
         requires nothing { owed self.old.state ≡ [] }
         requires untold { self.old.told ≡ false }
         requires few { self.old.given < 2 ^ 63 }
-        ensures answer { (calls : List Call) (taken : ℕ) → StandsFor self.old calls taken → result ≡ without_release (outcome
-            (answer ⟦<PacketBuf as HeldItem>⟧.is_same self.old.limits.data_window (data_arrivals calls) (data_entry buf))) }
+        ensures answer { (calls : List Call) (taken : ℕ) → StandsFor self.old calls taken
+            → result ≡ without_release (outcome
+            (answer ⟦<PacketBuf as HeldItem>⟧.is_same self.old.limits.data_window
+            (data_arrivals calls) (data_entry buf))) }
         ensures stands { (calls : List Call) (taken : ℕ) → StandsFor self.old calls taken
             → StandsFor self.new (calls ++ DataCall buf ∷ []) taken }
         ensures kept { SameBinder self.old self.new }
@@ -136,8 +155,9 @@ impl Binder {
         self.data_with(front, buf)
     }
 
-    /// The same as `data` for a packet whose front was read before, as from a piece in which it still
-    /// stands: its buffer, which may lie far away, is not looked at while the packet is held.
+    /// The same as `data` for a packet whose front was read before, as from a piece in which it
+    /// still stands: its buffer, which may lie far away, is not looked at while the packet is
+    /// held.
     ///
     /// `Err` exactly where the window for data packets turns it away: the buffer comes back, and
     /// nothing has changed.
@@ -147,8 +167,10 @@ impl Binder {
         requires nothing { owed self.old.state ≡ [] }
         requires untold { self.old.told ≡ false }
         requires few { self.old.given < 2 ^ 63 }
-        ensures answer { (calls : List Call) (taken : ℕ) → StandsFor self.old calls taken → result ≡ without_release (outcome
-            (answer ⟦<PacketBuf as HeldItem>⟧.is_same self.old.limits.data_window (data_arrivals calls) (data_entry buf))) }
+        ensures answer { (calls : List Call) (taken : ℕ) → StandsFor self.old calls taken
+            → result ≡ without_release (outcome
+            (answer ⟦<PacketBuf as HeldItem>⟧.is_same self.old.limits.data_window
+            (data_arrivals calls) (data_entry buf))) }
         ensures stands { (calls : List Call) (taken : ℕ) → StandsFor self.old calls taken
             → StandsFor self.new (calls ++ DataCall buf ∷ []) taken }
         ensures kept { SameBinder self.old self.new }
@@ -172,8 +194,8 @@ impl Binder {
         }
     }
 
-    /// The stream has ended: the contexts that are held are released, then the data packets that are
-    /// held, and then none waits any longer.
+    /// The stream has ended: the contexts that are held are released, then the data packets that
+    /// are held, and then none waits any longer.
     pub fn end(&mut self)
         requires nothing { owed self.old.state ≡ [] }
         requires untold { self.old.told ≡ false }
@@ -189,8 +211,8 @@ impl Binder {
         advance(&mut self.contexts, &mut self.packets, &mut self.binding);
     }
 
-    /// The next that is due: a data packet with the number lost before it, and then its runs. `None`
-    /// exactly where nothing is due.
+    /// The next that is due: a data packet with the number lost before it, and then its runs.
+    /// `None` exactly where nothing is due.
     pub fn next_out(&mut self) -> Option<Out>
         ensures given { (calls : List Call) (taken : ℕ) → StandsFor self.old calls taken
             → result ≡ slice_get (outputs_of self.old.limits calls) taken }
@@ -211,8 +233,8 @@ impl Binder {
         }
     }
 
-    /// The same as `next_out`, but a run is written and not handed out. Where what is given is no run,
-    /// nothing is written.
+    /// The same as `next_out`, but a run is written and not handed out. Where what is given is no
+    /// run, nothing is written.
     pub fn next_into(&mut self, run: &mut Run) -> Option<Given>
         ensures given { (calls : List Call) (taken : ℕ) → StandsFor self.old calls taken
             → out_with result run.new ≡ slice_get (outputs_of self.old.limits calls) taken }

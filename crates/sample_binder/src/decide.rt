@@ -7,17 +7,15 @@ ghost use Rattle.sample_binder.specs.Queue.{AreSound, IsShape};
 ghost use Rattle.sample_binder.specs.Left.{raw_of, decided, decided_bound};
 ghost use Rattle.sample_binder.specs.Samples.{rate_in, size_in, number_of};
 
-use crate::clock::is_captured_before;
-use crate::leaving::Leaving;
-use crate::pending::Pending;
+use crate::give::Leaving;
+use crate::queue::Pending;
 use crate::reason::Reason;
-use crate::sampled::Sampled;
-use crate::sampling::{rate_of, samples_of, size_of};
-use crate::shape::Shape;
+use crate::sampling::{Sampled, Shape, is_captured_before, rate_of, samples_of, size_of};
 use context_timeline::{Look, Timeline};
 use vrt_time::Stamp;
 
-// Writes how a packet leaves, where nothing later can change what is known of it, or where it must: whether it leaves.
+// Writes how a packet leaves, where nothing later can change what is known of it, or where it
+// must: whether it leaves.
 pub(crate) fn decide(
     timeline: &Timeline,
     packet: &Pending,
@@ -27,7 +25,9 @@ pub(crate) fn decide(
 ) -> bool
     requires sound { AreSound timeline.now.kept }
     requires shape { IsShape packet.now.shape }
-    ensures leaving { leaving.new ≡ decided timeline.now packet.now.shape must why (mark_in timeline.now (moment_of packet.now.shape.stamp)) }
+    ensures leaving { leaving.new
+        ≡ decided timeline.now packet.now.shape must why
+        (mark_in timeline.now (moment_of packet.now.shape.stamp)) }
     ensures leaves { result ≡ is_some leaving.new }
 {
     let (look, until) = timeline.look_until(packet.stamp().moment());
@@ -72,7 +72,8 @@ fn wait(leaving: &mut Option<Leaving>) -> bool
     false
 }
 
-// The same for a packet whose first sample has a context with these fields, which is in force until this stamp.
+// Writes how a packet leaves, and whether it does, whose first sample has a context with these
+// fields, which is in force until this stamp.
 fn decide_bound(
     timeline: &Timeline,
     shape: &Shape,
@@ -86,7 +87,9 @@ fn decide_bound(
     requires next { until ≡ next_stamp timeline.now.kept (moment_of shape.now.stamp) }
     requires closed { (later : ℕ) → moment_of shape.now.stamp ≤ later → is_below later until ≡ true
         → is_below later (horizon_of timeline.now) ≡ true }
-    ensures leaving { leaving.new ≡ decided_bound timeline.now shape.now must fields.now (number_of shape.now (size_in fields.now)) }
+    ensures leaving { leaving.new
+        ≡ decided_bound timeline.now shape.now must fields.now
+        (number_of shape.now (size_in fields.now)) }
     ensures leaves { result ≡ is_some leaving.new }
 {
     let Some(number) = samples_of(shape, size_of(fields)) else {
@@ -113,7 +116,8 @@ fn decide_bound(
 fn is_last_before(samples: &Sampled, until: Option<Stamp>) -> bool
     requires sampling { HasSampling samples.now.fields }
     requires some { 0 < samples.now.number }
-    ensures { result ≡ is_below (capture_at samples.now.stamp (samples.now.number - 1) (rate_in samples.now.fields)) until }
+    ensures { result ≡ is_below
+        (capture_at samples.now.stamp (samples.now.number - 1) (rate_in samples.now.fields)) until }
 {
     match until {
         Some(until) => is_captured_before(

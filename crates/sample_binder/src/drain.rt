@@ -8,8 +8,7 @@ ghost use Rattle.sample_binder.specs.Queue.{owed};
 ghost use Rattle.sample_binder.specs.Binder.{AreContextsSeen, ArePacketsSeen, AreSeen, Follows};
 ghost use Rattle.sample_binder.specs.Drained.{MayDrain, Drains, steps_left};
 
-use crate::binding::Binding;
-use crate::release::{give_context, give_data};
+use crate::binding::{Binding, give_context, give_data};
 use difi_context::ContextRec;
 use reorder_window::{Window, accepted_are_arrivals};
 use vrt_words::PacketBuf;
@@ -49,7 +48,9 @@ fn drain_data(packets: &mut Window<PacketBuf>, binding: &mut Binding) -> bool
     requires nothing { owed binding.old ≡ [] }
     requires running { binding.old.ended ≡ false }
     ensures seen { ArePacketsSeen packets.new true }
-    ensures follows { (limits : Limits) (contexts : Holding ContextRec) (calls : List Call) (taken : ℕ) → contexts.held ≡ []
+    ensures follows { (limits : Limits) (contexts : Holding ContextRec) (calls : List Call)
+        (taken : ℕ)
+        → contexts.held ≡ []
         → Follows limits contexts packets.old binding.old true calls taken
         → Follows limits contexts packets.new binding.new true calls taken }
     ensures size { packets.new.size ≡ packets.old.size }
@@ -82,7 +83,8 @@ fn drain_held(
     requires packets { ArePacketsSeen packets.old true }
     requires nothing { owed binding.old ≡ [] }
     requires running { binding.old.ended ≡ false }
-    ensures drains { Drains contexts.old packets.old binding.old contexts.new packets.new binding.new }
+    ensures drains { Drains contexts.old packets.old binding.old
+        contexts.new packets.new binding.new }
     ensures running { binding.new.ended ≡ false }
     ensures fewer { result ≡ true → length contexts.new.held + length packets.new.held
         < length contexts.old.held + length packets.old.held }
@@ -108,7 +110,8 @@ fn drain_event(
     requires packets { ArePacketsSeen packets.old true }
     requires nothing { owed binding.old ≡ [] }
     requires running { binding.old.ended ≡ false }
-    ensures drains { Drains contexts.old packets.old binding.old contexts.new packets.new binding.new }
+    ensures drains { Drains contexts.old packets.old binding.old
+        contexts.new packets.new binding.new }
     ensures fewer { steps_left contexts.new packets.new binding.new.ended
         < steps_left contexts.old packets.old binding.old.ended }
 {
@@ -138,7 +141,8 @@ pub(crate) fn advance(
 )
     requires contexts { MayDrain contexts.old binding.old.line }
     requires packets { ArePacketsSeen packets.old true }
-    ensures drains { Drains contexts.old packets.old binding.old contexts.new packets.new binding.new }
+    ensures drains { Drains contexts.old packets.old binding.old
+        contexts.new packets.new binding.new }
     ensures at_rest { owed binding.new ≡ [] → binding.new.ended ≡ true }
 {
     while may_go_on(binding) {
@@ -146,7 +150,7 @@ pub(crate) fn advance(
     }
 }
 
-// The same where the end was told.
+// Takes the events of the end as `advance` does, where the end was told; else nothing happens.
 pub(crate) fn go_on(
     told: bool,
     contexts: &mut Window<ContextRec>,
@@ -155,7 +159,8 @@ pub(crate) fn go_on(
 )
     requires contexts { told ≡ true → MayDrain contexts.old binding.old.line }
     requires packets { told ≡ true → ArePacketsSeen packets.old true }
-    ensures seen { (kept given : ℕ) → AreSeen kept given contexts.old packets.old binding.old.line told
+    ensures seen { (kept given : ℕ)
+        → AreSeen kept given contexts.old packets.old binding.old.line told
         → AreSeen kept given contexts.new packets.new binding.new.line told }
     ensures follows { (limits : Limits) (calls : List Call) (taken : ℕ)
         → Follows limits contexts.old packets.old binding.old told calls taken

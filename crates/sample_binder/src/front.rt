@@ -3,7 +3,7 @@ ghost use Rattle.vrt_words.specs.Words.{words_of};
 ghost use Rattle.sample_binder.specs.Calls.{data_stamp, data_count, front_in, shape_in};
 ghost use Rattle.sample_binder.specs.Given.{IsDataBytes};
 
-use crate::shape::Shape;
+use crate::sampling::Shape;
 use vrt_time::Stamp;
 use vrt_words::{bits_of, word_in};
 
@@ -23,7 +23,7 @@ pub fn front_of(bytes: &[u8]) -> Front
 {
     Front {
         stamp: stamp_of(bytes),
-        count: count_of(bytes),
+        count: packet_count(bytes),
     }
 }
 
@@ -39,7 +39,7 @@ fn stamp_of(bytes: &[u8]) -> Stamp
 }
 
 // The packet count, modulo 16.
-fn count_of(bytes: &[u8]) -> u8
+fn packet_count(bytes: &[u8]) -> u8
     requires { IsDataBytes bytes.now }
     ensures { result ≡ data_count bytes.now }
 {

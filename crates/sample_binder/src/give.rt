@@ -1,22 +1,40 @@
 ghost use Rattle.std.specs.Prelude.{◌≡◌, ◌+◌, true, false, [], ◌∷◌, None, length, IfSome, IfNone};
 ghost use Rattle.std.specs.VecDeque.{deque_capacity};
-ghost use Rattle.sample_binder.specs.declared.run.Run.{Run};
+ghost use Rattle.sample_binder.specs.declared.out.Run.{Run};
 ghost use Rattle.sample_binder.specs.GivenOut.{out_with};
 ghost use Rattle.sample_binder.specs.Left.{runs_left, runs_left_of, IsLeaving};
 ghost use Rattle.sample_binder.specs.Outputs.{open_reason, packets_in};
 ghost use Rattle.sample_binder.specs.Queue.{AreSound, AreShapes, first_decided};
 ghost use Rattle.sample_binder.specs.Steps.{GivesPacket};
 
-use crate::leaving::Leaving;
-use crate::out::Given;
-use crate::pending::Pending;
-use crate::queue::{decide_first, why_open};
+use crate::cut::next_stretch;
+use crate::out::{Given, Run};
+use crate::queue::{Pending, decide_first, why_open};
 use crate::reason::Reason;
-use crate::run::Run;
-use crate::runs::next_stretch;
-use crate::sampling::size_of;
+use crate::sampling::{Sampled, size_of};
 use context_timeline::Timeline;
 use std::collections::VecDeque;
+use vrt_time::Stamp;
+
+/// What is left of a packet that leaves.
+#[derive(Clone, Copy)]
+pub(crate) enum Leaving {
+    /// The packet as a whole.
+    Raw {
+        reason: Reason,
+        stamp: Stamp,
+        pad: u8,
+    },
+    /// All its samples, for which the context of the first is in force.
+    Whole {
+        samples: Sampled,
+    },
+    /// Its samples from this one on.
+    Cut {
+        samples: Sampled,
+        first: u32,
+    },
+}
 
 // Writes the next run of the packet that leaves, if one leaves.
 pub(crate) fn give_run(
@@ -42,7 +60,8 @@ pub(crate) fn give_run(
     true
 }
 
-// Writes the next run of a packet that leaves, which is then left without it: whether it is the last.
+// Writes the next run of a packet that leaves, which is then left without it: whether it is the
+// last.
 #[inline]
 fn take_run(timeline: &Timeline, why: Reason, leaving: &mut Leaving, run: &mut Run) -> bool
     requires { IsLeaving timeline.now why leaving.old }

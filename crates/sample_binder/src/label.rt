@@ -21,8 +21,8 @@ pub enum Label {
     Uncertain(Reason),
 }
 
-// What is known of a sample of whose moment this is said, in a packet whose first sample has a context with the fields
-// `first`. Where the moment is open, it is uncertain for the reason `why`.
+// What is known of a sample of whose moment this is said, in a packet whose first sample has a
+// context with the fields `first`. Where the moment is open, it is uncertain for the reason `why`.
 pub(crate) fn label_of(first: &[u32; 19], why: Reason, look: Look<'_>) -> Label
     ensures { result ≡ label_by first.now why (mark_of look.entry) }
 {

@@ -6,9 +6,9 @@ ghost use Rattle.difi_data.specs.Data.{DataPacket, IsData};
 ghost use Rattle.sample_binder.specs.declared.label.Label.{Label};
 ghost use Rattle.vrt_fields.specs.declared.limits.Limits.{Limits};
 ghost use Rattle.sample_binder.specs.declared.out.Out.{Out};
-ghost use Rattle.sample_binder.specs.Binder.{Bound, StandsFor};
+ghost use Rattle.sample_binder.specs.Binder.{BinderState, StandsFor};
 ghost use Rattle.sample_binder.specs.Calls.{Call, ContextCall, DataCall, EndCall, context_arrivals, data_arrivals, context_entry, data_entry, is_told, behind, all_releases, events_by, events_of, outputs_of, given_by, outcome};
-ghost use Rattle.sample_binder.specs.declared.turned.Turned.{Turned};
+ghost use Rattle.sample_binder.specs.declared.arrive.Turned.{Turned};
 ghost use Rattle.sample_binder.specs.Due.{due};
 ghost use Rattle.sample_binder.specs.Events.{Event};
 ghost use Rattle.sample_binder.specs.Outputs.{outputs};
@@ -27,7 +27,8 @@ ghost use Rattle.reorder_window.specs.Window.{releases, answer};
 /// give is the front of what they give with more events behind them.
 #[inline]
 pub fn due_events_are_the_first()
-    ensures due { (limits : Limits) (events : List Event) (j e : ℕ) → (due limits events j ≡ Some e) ↔ IsDueEvent limits events j e }
+    ensures due { (limits : Limits) (events : List Event) (j e : ℕ)
+        → (due limits events j ≡ Some e) ↔ IsDueEvent limits events j e }
     ensures stays { (limits : Limits) (events later : List Event)
         → (more : List Out) × (outputs limits (events ++ later) ≡ outputs limits events ++ more) }
 {}
@@ -42,7 +43,8 @@ pub fn stretches_are_the_longest()
 /// A law that a proof can cite. What is read of the words of a data packet is what the packet says.
 #[inline]
 pub fn data_packets_are_read()
-    ensures { (profile : PacketProfile) (packet : DataPacket) (bytes : List ℕ) → IsDatagram (IsData profile) packet bytes → IsRead packet bytes }
+    ensures { (profile : PacketProfile) (packet : DataPacket) (bytes : List ℕ)
+        → IsDatagram (IsData profile) packet bytes → IsRead packet bytes }
 {}
 
 /// A law that a proof can cite. Where the packet of each call is one of its kind, the outputs are
@@ -73,7 +75,7 @@ pub fn outputs_append()
 /// A law that a proof can cite. No more outputs were taken than there are.
 #[inline]
 pub fn taken_are_outputs()
-    ensures { (bound : Bound) (calls : List Call) (taken : ℕ) → StandsFor bound calls taken
+    ensures { (bound : BinderState) (calls : List Call) (taken : ℕ) → StandsFor bound calls taken
         → taken ≤ length (outputs_of bound.limits calls) }
 {}
 
@@ -113,9 +115,9 @@ pub fn packets_are_sound()
         → HasDataSize bytes }
 {}
 
-/// A law that a proof can cite. Where the packet of each call is one of its kind, a stream tells no
-/// more samples than the payloads that it was given have bytes; nor does it where each packet that is
-/// told as a whole counts as one more.
+/// A law that a proof can cite. Where the packet of each call is one of its kind, a stream tells
+/// no more samples than the payloads that it was given have bytes; nor does it where each packet
+/// that is told as a whole counts as one more.
 #[inline]
 pub fn samples_are_at_most_bytes()
     ensures arriving { (profile : PacketProfile) (limits : Limits) (calls : List Call)
@@ -136,10 +138,14 @@ pub fn samples_are_at_most_bytes()
 /// whatever calls come behind it, the outputs are those of the calls without it.
 #[inline]
 pub fn turned_away_changes_nothing()
-    ensures contexts { (same : ContextRec → ContextRec → Bool) (limits : Limits) (calls later : List Call) (rec : ContextRec) (why : Turned × ContextRec)
-        → outcome (answer same limits.context_window (context_arrivals calls) (context_entry rec)) ≡ Err why
-        → outputs_of limits (calls ++ ContextCall rec ∷ later) ≡ outputs_of limits (calls ++ later) }
-    ensures packets { (same : Buffer → Buffer → Bool) (limits : Limits) (calls later : List Call) (buf : Buffer) (why : Turned × Buffer)
+    ensures contexts { (same : ContextRec → ContextRec → Bool) (limits : Limits)
+        (calls later : List Call) (rec : ContextRec) (why : Turned × ContextRec)
+        → outcome (answer same limits.context_window (context_arrivals calls) (context_entry rec))
+        ≡ Err why
+        → outputs_of limits (calls ++ ContextCall rec ∷ later)
+        ≡ outputs_of limits (calls ++ later) }
+    ensures packets { (same : Buffer → Buffer → Bool) (limits : Limits) (calls later : List Call)
+        (buf : Buffer) (why : Turned × Buffer)
         → outcome (answer same limits.data_window (data_arrivals calls) (data_entry buf)) ≡ Err why
         → outputs_of limits (calls ++ DataCall buf ∷ later) ≡ outputs_of limits (calls ++ later) }
 {}

@@ -15,7 +15,8 @@ pub enum Reason {
     TimelineFull,
     /// The stream ended before a later context came.
     Ended,
-    /// Its context has another sample rate or payload format than that of its packet's first sample.
+    /// Its context has another sample rate or payload format than that of its packet's first
+    /// sample.
     FormatChanged,
     /// The payload of its packet does not divide into samples of its context's item size.
     Shape,

@@ -12,8 +12,8 @@ use Rattle.reorder_window.proofs.OrderLemmas.{ltb-false}
 use Rattle.sample_binder.specs.declared.out.Out.{Out}
 use Rattle.sample_binder.specs.declared.reason.Reason.{Reason}
 use Rattle.sample_binder.specs.declared.reason.Reason.TheVariants as reason
-use Rattle.sample_binder.specs.declared.run.Run.{Run}
-use Rattle.sample_binder.specs.declared.run.Run.TheVariants as run
+use Rattle.sample_binder.specs.declared.out.Run.{Run}
+use Rattle.sample_binder.specs.declared.out.Run.TheVariants as run
 use Rattle.sample_binder.specs.Calls.{data_stamp, outputs_of}
 use Rattle.sample_binder.specs.Events.{contexts_of}
 use Rattle.sample_binder.specs.Parts.{Part, samples_of}

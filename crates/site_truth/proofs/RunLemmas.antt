@@ -16,7 +16,7 @@ use Rattle.sample_binder.specs.declared.label.Label.{Label}
 use Rattle.sample_binder.specs.declared.label.Label.TheVariants as label
 use Rattle.sample_binder.specs.declared.reason.Reason.{Reason}
 use Rattle.sample_binder.specs.declared.reason.Reason.TheVariants as reason
-use Rattle.sample_binder.specs.declared.run.Run.{Run}
+use Rattle.sample_binder.specs.declared.out.Run.{Run}
 use Rattle.sample_binder.specs.Calls.{shape_in}
 use Rattle.sample_binder.specs.Due.{is_known, is_known_by, is_closed}
 use Rattle.sample_binder.specs.Parts.{samples_of}

@@ -6,8 +6,8 @@ use Rattle.reorder_window.specs.Delivery.{occurs}
 use Rattle.reorder_window.specs.Window.{answer}
 use Rattle.sample_binder.specs.declared.out.Out.{Out}
 use Rattle.sample_binder.specs.declared.reason.Reason.{Reason}
-use Rattle.sample_binder.specs.declared.run.Run.{Run}
-use Rattle.sample_binder.specs.declared.run.Run.TheVariants.{Bound, Uncertain, Raw}
+use Rattle.sample_binder.specs.declared.out.Run.{Run}
+use Rattle.sample_binder.specs.declared.out.Run.TheVariants.{Bound, Uncertain, Raw}
 use Rattle.sample_binder.specs.Calls.{Call, context_arrivals, context_entry, data_arrivals, data_entry, outcome}
 use Rattle.sample_binder.specs.Parts.{Part, outs_of}
 use Rattle.site_truth.specs.Site.{IsInForce, DividesInto, context_moment, packet_moment, packet_stamp, packet_pad, sample_moment}

@@ -4,8 +4,8 @@ use Rattle.vrt_time.specs.Time.{TimeStamp}
 use Rattle.reorder_window.specs.Delivery.{occurs}
 use Rattle.sample_binder.specs.declared.out.Out.{Out}
 use Rattle.sample_binder.specs.declared.reason.Reason.{Reason}
-use Rattle.sample_binder.specs.declared.run.Run.{Run}
-use Rattle.sample_binder.specs.declared.run.Run.TheVariants.{Bound, Uncertain, Raw}
+use Rattle.sample_binder.specs.declared.out.Run.{Run}
+use Rattle.sample_binder.specs.declared.out.Run.TheVariants.{Bound, Uncertain, Raw}
 use Rattle.sample_binder.specs.Parts.{Part, outs_of, samples_of}
 use Rattle.sample_binder.specs.Samples.{size_in}
 use Rattle.site_truth.specs.Site.{IsInForce, fields_at, packet_stamp, packet_moment, packet_pad, DividesInto, sample_moment}

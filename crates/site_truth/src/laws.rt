@@ -4,7 +4,7 @@ ghost use Rattle.vrt_header.specs.Profile.{PacketProfile};
 ghost use Rattle.difi_context.specs.declared.context.ContextRec.{ContextRec};
 ghost use Rattle.reorder_window.specs.Delivery.{occurs};
 ghost use Rattle.sample_binder.specs.declared.out.Out.{Out};
-ghost use Rattle.sample_binder.specs.declared.run.Run.{Run};
+ghost use Rattle.sample_binder.specs.declared.out.Run.{Run};
 ghost use Rattle.sample_binder.specs.Calls.{Call, ContextCall, DataCall, outputs_of};
 ghost use Rattle.sample_binder.specs.Parts.{Part};
 ghost use Rattle.site_truth.specs.Consequences.{Binds, IsBoundIn, IsContextTaken, IsKnown, IsPacketTaken, IsUnlost, IsWithin, LeavesOnce};

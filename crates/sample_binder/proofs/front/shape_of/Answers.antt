@@ -1,7 +1,7 @@
 use Rattle.std.proofs.Common.{◌≡◌, ◌-◌, ◌/◌, ℕ, length, ap, ◌∙◌, arith}
 use Rattle.vrt_words.specs.Words.{words_of, bits}
 use Rattle.vrt_words.proofs.WordLaws.{length-words_of}
-use Rattle.sample_binder.specs.declared.shape.Shape.{Shape}
+use Rattle.sample_binder.specs.declared.sampling.Shape.{Shape}
 use Rattle.sample_binder.proofs.front.shape_of.Goals as goal
 
 pub overflow_cast-result : goal.overflow_cast-result

@@ -1,7 +1,9 @@
 //! Rules at their edges: what is just so, and what just is not.
-use crate::harness::*;
-use crate::script::Step::{Bound, Context, Data, End, Nothing, Packet, Raw, Uncertain};
-use crate::script::{Step, Wrong, play};
+use crate::tests::harness::*;
+use crate::tests::script::Step::{End, Nothing};
+use crate::tests::script::{
+    Step, Wrong, bound, context_given, data_given, packet_leaves, play, raw, uncertain,
+};
 use crate::tests::{
     FASTER, FOUR, LIMITS, NARROW, ONE, ONE_HELD, PLAIN, SLOW, SLOW_OTHER_GAIN, TWO,
     across_a_context, across_a_loss, across_lost_packets,
@@ -45,14 +47,14 @@ const SLOWEST_OTHER_GAIN: Tuning = Tuning {
 #[test]
 fn a_packet_waits_where_its_last_sample_is_at_the_horizon(rt: HostRuntime) -> Result<(), Wrong> {
     let steps = [
-        Data(START, 0, FOUR),
-        Context(START, 0, CHANGED, SLOW),
-        Context(ONE_AND_A_HALF, 1, CHANGED, SLOW_OTHER_GAIN),
+        data_given(START, 0, FOUR),
+        context_given(START, 0, CHANGED, SLOW),
+        context_given(ONE_AND_A_HALF, 1, CHANGED, SLOW_OTHER_GAIN),
         Nothing,
-        Context(TWO_SECONDS, 2, CHANGED, SLOW),
-        Packet(0),
-        Bound(START, 0, 3, START, SLOW, 16),
-        Bound(START, 3, 1, ONE_AND_A_HALF, SLOW_OTHER_GAIN, 16),
+        context_given(TWO_SECONDS, 2, CHANGED, SLOW),
+        packet_leaves(0),
+        bound(START, 0, 3, START, SLOW, 16),
+        bound(START, 3, 1, ONE_AND_A_HALF, SLOW_OTHER_GAIN, 16),
         Nothing,
     ];
     play(rt.alloc(), LIMITS, &steps)
@@ -64,12 +66,12 @@ fn a_packet_leaves_where_its_last_sample_is_below_the_horizon(
     rt: HostRuntime,
 ) -> Result<(), Wrong> {
     let steps = [
-        Data(START, 0, FOUR),
-        Context(START, 0, CHANGED, SLOW),
+        data_given(START, 0, FOUR),
+        context_given(START, 0, CHANGED, SLOW),
         Nothing,
-        Context(TWO_SECONDS, 1, CHANGED, SLOW),
-        Packet(0),
-        Bound(START, 0, 4, START, SLOW, 16),
+        context_given(TWO_SECONDS, 1, CHANGED, SLOW),
+        packet_leaves(0),
+        bound(START, 0, 4, START, SLOW, 16),
         Nothing,
     ];
     play(rt.alloc(), LIMITS, &steps)
@@ -84,58 +86,67 @@ fn a_packet_leaves_where_its_last_sample_is_hardly_below_the_horizon(
     rt: HostRuntime,
 ) -> Result<(), Wrong> {
     let steps = [
-        Data(START, 0, FOUR),
-        Context(START, 0, CHANGED, SLOW),
+        data_given(START, 0, FOUR),
+        context_given(START, 0, CHANGED, SLOW),
         Nothing,
-        Context(HARDLY_LATER, 1, CHANGED, SLOW_OTHER_GAIN),
-        Packet(0),
-        Bound(START, 0, 4, START, SLOW, 16),
+        context_given(HARDLY_LATER, 1, CHANGED, SLOW_OTHER_GAIN),
+        packet_leaves(0),
+        bound(START, 0, 4, START, SLOW, 16),
         Nothing,
     ];
     play(rt.alloc(), LIMITS, &steps)
 }
 
-// The last of the four samples is captured at 1.5 s, a picosecond before the second of three contexts: one run.
+// The last of the four samples is captured at 1.5 s, a picosecond before the second of three
+// contexts: one run.
 #[test]
 fn a_context_hardly_after_the_last_sample_does_not_cut(rt: HostRuntime) -> Result<(), Wrong> {
-    let second = Context(HARDLY_LATER, 1, CHANGED, SLOW_OTHER_GAIN);
-    let run = Bound(START, 0, 4, START, SLOW, 16);
+    let second = context_given(HARDLY_LATER, 1, CHANGED, SLOW_OTHER_GAIN);
+    let run = bound(START, 0, 4, START, SLOW, 16);
     across_a_context(rt.alloc(), second, run, Nothing)
 }
 
 // It is captured at the stamp of the second of three contexts: two runs, though the third is later.
 #[test]
 fn a_context_at_the_last_sample_cuts_before_a_later_one(rt: HostRuntime) -> Result<(), Wrong> {
-    let second = Context(ONE_AND_A_HALF, 1, CHANGED, SLOW);
-    let first_run = Bound(START, 0, 3, START, SLOW, 16);
-    let second_run = Bound(START, 3, 1, ONE_AND_A_HALF, SLOW, 16);
+    let second = context_given(ONE_AND_A_HALF, 1, CHANGED, SLOW);
+    let first_run = bound(START, 0, 3, START, SLOW, 16);
+    let second_run = bound(START, 3, 1, ONE_AND_A_HALF, SLOW, 16);
     across_a_context(rt.alloc(), second, first_run, second_run)
 }
 
 #[test]
 fn a_sample_at_the_horizon_is_uncertain_at_the_end(rt: HostRuntime) -> Result<(), Wrong> {
     let steps = [
-        Data(START, 0, FOUR),
-        Context(START, 0, CHANGED, SLOW),
-        Context(ONE_AND_A_HALF, 1, CHANGED, SLOW),
+        data_given(START, 0, FOUR),
+        context_given(START, 0, CHANGED, SLOW),
+        context_given(ONE_AND_A_HALF, 1, CHANGED, SLOW),
         Nothing,
         End,
-        Packet(0),
-        Bound(START, 0, 3, START, SLOW, 16),
-        Uncertain(Reason::Ended, START, 3, 1, ONE_AND_A_HALF, 16),
+        packet_leaves(0),
+        bound(START, 0, 3, START, SLOW, 16),
+        uncertain(Reason::Ended, START, 3, 1, ONE_AND_A_HALF, 16),
         Nothing,
     ];
     play(rt.alloc(), LIMITS, &steps)
 }
 
-// Four samples across a context at 1 s with this tuning, of which two are bound and two leave with this run.
+// Four samples across a context at 1 s with this tuning, of which two are bound and two leave with
+// this run.
 fn two_bound_and(alloc: Global, second: Tuning, run: Step) -> Result<(), Wrong> {
-    let second = Context(ONE_SECOND, 1, CHANGED, second);
-    across_a_context(alloc, second, Bound(START, 0, 2, START, SLOW, 16), run)
+    let second = context_given(ONE_SECOND, 1, CHANGED, second);
+    across_a_context(alloc, second, bound(START, 0, 2, START, SLOW, 16), run)
 }
 
 /// The last two of four samples, of another format.
-const TWO_CHANGED: Step = Uncertain(Reason::FormatChanged, START, 2, 2, ONE_SECOND, 16);
+const TWO_CHANGED: Step = Step::Uncertain {
+    reason: Reason::FormatChanged,
+    stamp: START,
+    first: 2,
+    number: 2,
+    at: ONE_SECOND,
+    bits: 16,
+};
 
 #[test]
 fn another_format_of_the_same_item_size_is_another_format(rt: HostRuntime) -> Result<(), Wrong> {
@@ -154,12 +165,13 @@ fn another_rate_in_its_last_bit_is_another_format(rt: HostRuntime) -> Result<(),
 
 #[test]
 fn two_contexts_with_equal_fields_are_two(rt: HostRuntime) -> Result<(), Wrong> {
-    let run = Bound(START, 2, 2, ONE_SECOND, SLOW, 16);
+    let run = bound(START, 2, 2, ONE_SECOND, SLOW, 16);
     two_bound_and(rt.alloc(), SLOW, run)
 }
 
-// Contexts every half second from 0 to 2 s with these counts and tunings, and then four samples from 0 s on, one under
-// each of the first four contexts, of which the first is bound and what follows leaves so.
+// Contexts every half second from 0 to 2 s with these counts and tunings, and then four samples
+// from 0 s on, one under each of the first four contexts, of which the first is bound and what
+// follows leaves so.
 fn four_under_four(
     alloc: Global,
     counts: [u8; 4],
@@ -167,14 +179,14 @@ fn four_under_four(
     rest: [Step; 3],
 ) -> Result<(), Wrong> {
     let steps = [
-        Context(START, 0, CHANGED, SLOW),
-        Context(HALF_PAST, counts[0], CHANGED, tunings[0]),
-        Context(ONE_SECOND, counts[1], CHANGED, tunings[1]),
-        Context(ONE_AND_A_HALF, counts[2], CHANGED, SLOW),
-        Context(TWO_SECONDS, counts[3], CHANGED, SLOW),
-        Data(START, 0, FOUR),
-        Packet(0),
-        Bound(START, 0, 1, START, SLOW, 16),
+        context_given(START, 0, CHANGED, SLOW),
+        context_given(HALF_PAST, counts[0], CHANGED, tunings[0]),
+        context_given(ONE_SECOND, counts[1], CHANGED, tunings[1]),
+        context_given(ONE_AND_A_HALF, counts[2], CHANGED, SLOW),
+        context_given(TWO_SECONDS, counts[3], CHANGED, SLOW),
+        data_given(START, 0, FOUR),
+        packet_leaves(0),
+        bound(START, 0, 1, START, SLOW, 16),
         rest[0],
         rest[1],
         rest[2],
@@ -183,13 +195,20 @@ fn four_under_four(
 }
 
 /// The last of the four samples, bound again.
-const LAST_BOUND: Step = Bound(START, 3, 1, ONE_AND_A_HALF, SLOW, 16);
+const LAST_BOUND: Step = Step::Bound {
+    stamp: START,
+    first: 3,
+    number: 1,
+    at: ONE_AND_A_HALF,
+    tuning: SLOW,
+    bits: 16,
+};
 
 #[test]
 fn one_context_lost_and_two_are_two_stretches(rt: HostRuntime) -> Result<(), Wrong> {
     let rest = [
-        Uncertain(Reason::ContextLost(1), START, 1, 1, HALF_PAST, 16),
-        Uncertain(Reason::ContextLost(2), START, 2, 1, ONE_SECOND, 16),
+        uncertain(Reason::ContextLost(1), START, 1, 1, HALF_PAST, 16),
+        uncertain(Reason::ContextLost(2), START, 2, 1, ONE_SECOND, 16),
         LAST_BOUND,
     ];
     four_under_four(rt.alloc(), [1, 3, 6, 7], [SLOW, SLOW], rest)
@@ -198,7 +217,7 @@ fn one_context_lost_and_two_are_two_stretches(rt: HostRuntime) -> Result<(), Wro
 #[test]
 fn one_context_lost_twice_is_one_stretch(rt: HostRuntime) -> Result<(), Wrong> {
     let rest = [
-        Uncertain(Reason::ContextLost(1), START, 1, 2, HALF_PAST, 16),
+        uncertain(Reason::ContextLost(1), START, 1, 2, HALF_PAST, 16),
         LAST_BOUND,
         Nothing,
     ];
@@ -208,7 +227,7 @@ fn one_context_lost_twice_is_one_stretch(rt: HostRuntime) -> Result<(), Wrong> {
 #[test]
 fn another_format_over_two_contexts_is_one_stretch(rt: HostRuntime) -> Result<(), Wrong> {
     let rest = [
-        Uncertain(Reason::FormatChanged, START, 1, 2, HALF_PAST, 16),
+        uncertain(Reason::FormatChanged, START, 1, 2, HALF_PAST, 16),
         LAST_BOUND,
         Nothing,
     ];
@@ -218,8 +237,12 @@ fn another_format_over_two_contexts_is_one_stretch(rt: HostRuntime) -> Result<()
 // The third context has the count of the second: fifteen were lost between them.
 #[test]
 fn fifteen_contexts_lost_are_told(rt: HostRuntime) -> Result<(), Wrong> {
-    let run = Raw(Reason::ContextLost(15), ONE_AND_A_HALF, 0);
-    across_a_loss(rt.alloc(), Context(THREE_SECONDS, 1, UNCHANGED, PLAIN), run)
+    let run = raw(Reason::ContextLost(15), ONE_AND_A_HALF, 0);
+    across_a_loss(
+        rt.alloc(),
+        context_given(THREE_SECONDS, 1, UNCHANGED, PLAIN),
+        run,
+    )
 }
 
 #[test]
@@ -227,20 +250,21 @@ fn fifteen_packets_lost_are_told(rt: HostRuntime) -> Result<(), Wrong> {
     across_lost_packets(rt.alloc(), [7, 7], 15)
 }
 
-// At the end the held context comes first, and then one more packet than may wait: the first was due before it.
+// At the end the held context comes first, and then one more packet than may wait: the first was
+// due before it.
 #[test]
 fn held_contexts_come_before_held_packets_at_the_end(rt: HostRuntime) -> Result<(), Wrong> {
     let steps = [
-        Context(START, 0, CHANGED, SLOW),
-        Context(ONE_SECOND, 1, CHANGED, SLOW),
-        Data(START, 0, ONE),
-        Data(HALF_PAST, 1, ONE),
+        context_given(START, 0, CHANGED, SLOW),
+        context_given(ONE_SECOND, 1, CHANGED, SLOW),
+        data_given(START, 0, ONE),
+        data_given(HALF_PAST, 1, ONE),
         Nothing,
         End,
-        Packet(0),
-        Bound(START, 0, 1, START, SLOW, 16),
-        Packet(0),
-        Bound(HALF_PAST, 0, 1, HALF_PAST, SLOW, 16),
+        packet_leaves(0),
+        bound(START, 0, 1, START, SLOW, 16),
+        packet_leaves(0),
+        bound(HALF_PAST, 0, 1, HALF_PAST, SLOW, 16),
         Nothing,
     ];
     play(rt.alloc(), HELD_AND_ONE_WAITS, &steps)
@@ -250,13 +274,13 @@ fn held_contexts_come_before_held_packets_at_the_end(rt: HostRuntime) -> Result<
 #[test]
 fn a_context_between_two_samples_has_the_second(rt: HostRuntime) -> Result<(), Wrong> {
     let steps = [
-        Context(START, 0, CHANGED, SLOWEST),
-        Context(HALF_PAST, 1, CHANGED, SLOWEST_OTHER_GAIN),
-        Context(TWO_SECONDS, 2, CHANGED, SLOWEST),
-        Data(START, 0, TWO),
-        Packet(0),
-        Bound(START, 0, 1, START, SLOWEST, 16),
-        Bound(START, 1, 1, ONE_SECOND, SLOWEST_OTHER_GAIN, 16),
+        context_given(START, 0, CHANGED, SLOWEST),
+        context_given(HALF_PAST, 1, CHANGED, SLOWEST_OTHER_GAIN),
+        context_given(TWO_SECONDS, 2, CHANGED, SLOWEST),
+        data_given(START, 0, TWO),
+        packet_leaves(0),
+        bound(START, 0, 1, START, SLOWEST, 16),
+        bound(START, 1, 1, ONE_SECOND, SLOWEST_OTHER_GAIN, 16),
         Nothing,
     ];
     play(rt.alloc(), LIMITS, &steps)

@@ -1,7 +1,7 @@
 use Rattle.std.proofs.Common.{◌≡◌, arith, rules}
 use Rattle.release_form.specs.Positions.{word}
 use Rattle.release_form.proofs.ReleaseLaws.{first_found}
-use Rattle.release_form.proofs.decoding.first_record.Goals as goal
+use Rattle.release_form.proofs.reading.first_record.Goals as goal
 
 pub returns-clause-found : goal.returns-clause-found
 returns-clause-found c =

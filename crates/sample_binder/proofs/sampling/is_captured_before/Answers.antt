@@ -1,7 +1,7 @@
 use Rattle.std.proofs.Common.{◌≡◌, ◌+◌, ◌-◌, ◌*◌, ◌/◌, ◌^◌, ℕ, nat_lt, ap, ◌∙◌, arith}
 use Rattle.vrt_time.specs.Time.{moment_of, capture_at}
 use Rattle.sample_binder.proofs.ClockLemmas.{lt_by_product}
-use Rattle.sample_binder.proofs.clock.is_captured_before.Goals as goal
+use Rattle.sample_binder.proofs.sampling.is_captured_before.Goals as goal
 
 pub returns-then-end-start-2 : goal.returns-then-end-start-2
 returns-then-end-start-2 c =

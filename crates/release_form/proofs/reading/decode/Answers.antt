@@ -6,7 +6,7 @@ use Rattle.release_form.specs.Release.{StandsFirst, IsPartOf, as_read}
 use Rattle.release_form.proofs.ReleaseLaws.{read_first, none_first}
 use Rattle.release_form.specs.declared.shown.Shown.{Shown}
 use Rattle.release_form.proofs.Told.{if_none}
-use Rattle.release_form.proofs.decoding.decode.Goals as goal
+use Rattle.release_form.proofs.reading.decode.Goals as goal
 
 pub returns-in_err-shown-clause-only : goal.returns-in_err-shown-clause-only
 returns-in_err-shown-clause-only c = λ shown part size s.

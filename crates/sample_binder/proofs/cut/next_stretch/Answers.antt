@@ -1,11 +1,11 @@
 use Rattle.std.proofs.Common.{◌-◌, ◌∷◌, ℕ, sym, ap, ◌∙◌}
 use Rattle.context_timeline.specs.Looks.{mark_of}
 use Rattle.sample_binder.specs.declared.label.Label.{Label}
-use Rattle.sample_binder.specs.declared.run.Run.{Run}
+use Rattle.sample_binder.specs.declared.out.Run.{Run}
 use Rattle.sample_binder.specs.Runs.{label_by, run_by}
 use Rattle.sample_binder.specs.Left.{runs_left_of, rest_from}
 use Rattle.sample_binder.proofs.RunLemmas.{first_run, rest_leaves}
-use Rattle.sample_binder.proofs.runs.next_stretch.Goals as goal
+use Rattle.sample_binder.proofs.cut.next_stretch.Goals as goal
 
 pub returns-clause-runs : goal.returns-clause-runs
 returns-clause-runs c =

@@ -4,7 +4,7 @@ use Rattle.difi_context.specs.declared.context.ContextRec.{ContextRec}
 use Rattle.sample_binder.specs.Queue.{StandsFor}
 use Rattle.sample_binder.specs.Arrivals.{released_list}
 use Rattle.sample_binder.specs.Calls.{context_event}
-use Rattle.sample_binder.proofs.release.give_context.Goals as goal
+use Rattle.sample_binder.proofs.binding.give_context.Goals as goal
 
 pub returns-in-Some-clause-history : goal.returns-in-Some-clause-history
 returns-in-Some-clause-history c = λ limits events taken h.

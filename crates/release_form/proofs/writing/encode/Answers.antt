@@ -6,7 +6,7 @@ use Rattle.release_form.proofs.ReleaseLaws.{front_least}
 use Rattle.vrt_words.proofs.WordLaws.{AreBytes-take}
 use Rattle.release_form.proofs.Spelling.{one_record}
 use Rattle.release_form.proofs.Laid.{record_written, behind_written}
-use Rattle.release_form.proofs.encoding.encode.Goals as goal
+use Rattle.release_form.proofs.writing.encode.Goals as goal
 
 pub returns-clause-written : goal.returns-clause-written
 returns-clause-written c =

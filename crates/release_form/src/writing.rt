@@ -16,8 +16,8 @@ use sample_binder::Run;
 /// bytes stay.
 ///
 /// `bytes` is the payload of the run's packet, whose samples `first` to `first + number - 1` are
-/// written as items of 16 bits; or the payload of a raw run, or the packet, which is written as it is.
-/// It is empty for a refused frame and the end.
+/// written as items of 16 bits; or the payload of a raw run, or the packet, which is written as it
+/// is. It is empty for a refused frame and the end.
 pub fn encode(shown: &Shown, bytes: &[u8], into: &mut [u8]) -> usize
     requires obeys { Obeys shown.now }
     requires given { GoesWith shown.now (length bytes.now) }

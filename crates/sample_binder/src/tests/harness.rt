@@ -11,7 +11,8 @@ use vrt_header::Profile;
 use vrt_time::{Moment, Stamp};
 use vrt_words::{PacketBuf, put_word, put_words};
 
-/// A time on the test's clock: so many halves of a second and so many picoseconds after 1,699,999,999 s.
+/// A time on the test's clock: so many halves of a second and so many picoseconds after
+/// 1,699,999,999 s.
 #[derive(Clone, Copy)]
 pub(crate) struct Time(pub(crate) u8, pub(crate) u8);
 

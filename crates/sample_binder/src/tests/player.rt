@@ -5,7 +5,7 @@ ghost use Rattle.sample_binder.specs.Given.{IsDataOf};
 ghost use Rattle.vrt_fields.specs.Limits.{AreLimits};
 ghost use Rattle.sample_binder.specs.Queue.{owed};
 
-use crate::harness::profile;
+use crate::tests::harness::profile;
 use crate::{Binder, Given, Limits, Out, Run, Turned};
 use difi_context::ContextRec;
 use std::alloc::Global;
