@@ -3,6 +3,7 @@ ghost use Rattle.difi_io.specs.Faults.{Rose};
 ghost use Rattle.difi_cmd.specs.declared.words.Line.{Line};
 ghost use Rattle.difi_cmd.specs.LineOfWords.{Asks};
 ghost use Rattle.difi_cmd.specs.Outcome.{DoesLine, IsLineVerdict, wants_of};
+ghost use Rattle.difi_gateway.specs.TrueText.{IsTrueReplay};
 
 use crate::list::list;
 use crate::migrate::migrate;
@@ -66,6 +67,21 @@ pub fn difi_run<R: Threads + Sync, S: Source + Send, K: Sink + Send, G: Gate + S
           writes = K.faults sink.old;
           writes_now = K.faults sink.new;
         })) }
+
+    // Where a replay is done, what was written of each stream of which the record holds a delivery is true
+    // of what its site sent, for each of its ports.
+    ensures truth { result ≡ Status.Done → (most : ℕ) → Asks words.now (Line.Replay most)
+        → IsTrueReplay
+        (record {
+          left = S.left source.old;
+          left_now = S.left source.new;
+          held = K.held sink.old;
+          held_now = K.held sink.new;
+          reads = S.faults source.old;
+          reads_now = S.faults source.new;
+          writes = K.faults sink.old;
+          writes_now = K.faults sink.new;
+        }) }
 
     // Where no read and no write fails, the bytes decide, unless memory runs out.
     ensures complete { (line : Line) → Asks words.now line

@@ -22,9 +22,9 @@ use Rattle.sample_binder.specs.Calls.{Call, ContextCall, DataCall, EndCall, cont
 use Rattle.sample_binder.specs.Parts.{payload_of}
 use Rattle.sample_binder.specs.declared.out.Out.{Out}
 use Rattle.sample_binder.specs.declared.out.Out.TheVariants as out
-use Rattle.sample_binder.specs.declared.run.Run.{Run}
-use Rattle.sample_binder.specs.declared.turned.Turned.{Turned}
-use Rattle.sample_binder.specs.declared.turned.Turned.TheVariants as turned
+use Rattle.sample_binder.specs.declared.out.Run.{Run}
+use Rattle.sample_binder.specs.declared.arrive.Turned.{Turned}
+use Rattle.sample_binder.specs.declared.arrive.Turned.TheVariants as turned
 use Rattle.sample_binder.proofs.BinderLemmas.{context_arrivals-append, data_arrivals-append}
 use Rattle.sample_binder.proofs.EventLemmas.{every-append}
 use Rattle.site_truth.specs.Site.{context_sent}
@@ -40,6 +40,9 @@ use Rattle.difi_gateway.specs.TrueText.{AreFirstTaken, IsNotRefused, Refuses}
 use Rattle.difi_gateway.proofs.Growth.{told_from-append}
 use Rattle.difi_gateway.proofs.OneReading.{one_content}
 use Rattle.difi_gateway.proofs.StreamRuns.{calls-append, equal_to, true_or_false}
+
+abbrev holding : Frame → Content → Received
+holding frame content = record { frame = frame; content = content }
 
 -- ---- the window of its kind takes it
 
@@ -117,33 +120,30 @@ abbrev pub IsAmong : (Received → Type 0) → List Received → Type 0
 IsAmong P before = (j : ℕ) × (other : Received) × (slice_get before j ≡ Some other) × P other
 
 among_rest : (P : Received → Type 0) (r : Received) (before : List Received) → IsAmong P before → IsAmong P (r ∷ before)
-among_rest P r before a = (suc a.0, (a.1.0, (a.1.1.0, a.1.1.1)))
+among_rest P r before a = (suc a.0, a.1, a.2, a.3)
 
 module _ (head : RecordHead) (stream : ℕ) where
   -- the arrivals of a frame stand in front of the others
   data_here : (frame : Frame) (content : Content) (before : List Received) (buf : Buffer)
       → ((i : ℕ) → slice_get (data_arrivals (calls head stream before)) i ≡ Some (data_entry buf) → IsAmong (HoldsBuffer head buf) before) → (i : ℕ)
-      → slice_get (data_arrivals (calls_by head stream (record { frame = frame; content = content }) ++ calls head stream before)) i ≡ Some (data_entry buf)
-      → IsAmong (HoldsBuffer head buf) (record { frame = frame; content = content } ∷ before)
+      → slice_get (data_arrivals (calls_by head stream (holding frame content) ++ calls head stream before)) i ≡ Some (data_entry buf)
+      → IsAmong (HoldsBuffer head buf) (holding frame content ∷ before)
   data_here frame (Larger size) before buf h i e = among_rest (HoldsBuffer head buf) _ before (h i e)
   data_here frame (NoPacket word) before buf h i e = among_rest (HoldsBuffer head buf) _ before (h i e)
   data_here frame (Holds (DataValue packet)) before buf h i e = by_stream (packet.prologue.stream == stream) refl i e
     where
-      abbrev r : Received
-      r = record { frame = frame; content = Holds (DataValue packet) }
-
       by_stream : (b : Bool) → (packet.prologue.stream == stream) ≡ b → (i : ℕ)
           → slice_get (data_arrivals (cond (packet.prologue.stream == stream) (DataCall (buffer_of head frame.datagram) ∷ []) [] ++ calls head stream before)) i ≡ Some (data_entry buf)
-          → IsAmong (HoldsBuffer head buf) (r ∷ before)
+          → IsAmong (HoldsBuffer head buf) (holding frame (Holds (DataValue packet)) ∷ before)
       by_stream true is zero f =
           let one : Some (data_entry (buffer_of head frame.datagram)) ≡ Some (data_entry buf) =
           sym (ap (λ b. slice_get (data_arrivals (cond b (DataCall (buffer_of head frame.datagram) ∷ []) [] ++ calls head stream before)) 0) is) ∙ f in
-          (0, (r, (refl, (packet, (refl, ap (λ (x : Entry Buffer). x.item) (same_Some _ _ one))))))
+          (0, holding frame (Holds (DataValue packet)), refl, (packet, refl, ap (λ (x : Entry Buffer). x.item) (same_Some _ _ one)))
       by_stream true is (suc i) f =
-          among_rest (HoldsBuffer head buf) r before
+          among_rest (HoldsBuffer head buf) _ before
           (h i (sym (ap (λ b. slice_get (data_arrivals (cond b (DataCall (buffer_of head frame.datagram) ∷ []) [] ++ calls head stream before)) (suc i)) is) ∙ f))
       by_stream false is i f =
-          among_rest (HoldsBuffer head buf) r before
+          among_rest (HoldsBuffer head buf) _ before
           (h i (sym (ap (λ b. slice_get (data_arrivals (cond b (DataCall (buffer_of head frame.datagram) ∷ []) [] ++ calls head stream before)) i) is) ∙ f))
   data_here frame (Holds (ContextValue rec)) before buf h i e =
       among_rest (HoldsBuffer head buf) _ before (h i (by_stream (rec.prologue.stream == stream) refl))
@@ -162,8 +162,8 @@ module _ (head : RecordHead) (stream : ℕ) where
 
   context_here : (frame : Frame) (content : Content) (before : List Received) (rec : ContextRec)
       → ((i : ℕ) → slice_get (context_arrivals (calls head stream before)) i ≡ Some (context_entry rec) → IsAmong (HoldsContext rec) before) → (i : ℕ)
-      → slice_get (context_arrivals (calls_by head stream (record { frame = frame; content = content }) ++ calls head stream before)) i ≡ Some (context_entry rec)
-      → IsAmong (HoldsContext rec) (record { frame = frame; content = content } ∷ before)
+      → slice_get (context_arrivals (calls_by head stream (holding frame content) ++ calls head stream before)) i ≡ Some (context_entry rec)
+      → IsAmong (HoldsContext rec) (holding frame content ∷ before)
   context_here frame (Larger size) before rec h i e = among_rest (HoldsContext rec) _ before (h i e)
   context_here frame (NoPacket word) before rec h i e = among_rest (HoldsContext rec) _ before (h i e)
   context_here frame (Holds (DataValue packet)) before rec h i e =
@@ -174,22 +174,19 @@ module _ (head : RecordHead) (stream : ℕ) where
       by_stream false is = sym (ap (λ b. slice_get (context_arrivals (cond b (DataCall (buffer_of head frame.datagram) ∷ []) [] ++ calls head stream before)) i) is) ∙ e
   context_here frame (Holds (ContextValue other)) before rec h i e = by_stream (other.prologue.stream == stream) refl i e
     where
-      abbrev r : Received
-      r = record { frame = frame; content = Holds (ContextValue other) }
-
       by_stream : (b : Bool) → (other.prologue.stream == stream) ≡ b → (i : ℕ)
           → slice_get (context_arrivals (cond (other.prologue.stream == stream) (ContextCall other ∷ []) [] ++ calls head stream before)) i ≡ Some (context_entry rec)
-          → IsAmong (HoldsContext rec) (r ∷ before)
+          → IsAmong (HoldsContext rec) (holding frame (Holds (ContextValue other)) ∷ before)
       by_stream true is zero f =
           let one : Some (context_entry other) ≡ Some (context_entry rec) =
           sym (ap (λ b. slice_get (context_arrivals (cond b (ContextCall other ∷ []) [] ++ calls head stream before)) 0) is) ∙ f in
           let same : other ≡ rec = ap (λ (x : Entry ContextRec). x.item) (same_Some _ _ one) in
-          (0, (r, (refl, ap (λ c. Holds (ContextValue c)) same)))
+          (0, holding frame (Holds (ContextValue other)), refl, ap (λ c. Holds (ContextValue c)) same)
       by_stream true is (suc i) f =
-          among_rest (HoldsContext rec) r before
+          among_rest (HoldsContext rec) _ before
           (h i (sym (ap (λ b. slice_get (context_arrivals (cond b (ContextCall other ∷ []) [] ++ calls head stream before)) (suc i)) is) ∙ f))
       by_stream false is i f =
-          among_rest (HoldsContext rec) r before
+          among_rest (HoldsContext rec) _ before
           (h i (sym (ap (λ b. slice_get (context_arrivals (cond b (ContextCall other ∷ []) [] ++ calls head stream before)) i) is) ∙ f))
   context_here frame (Holds (VersionValue other)) before rec h i e = among_rest (HoldsContext rec) _ before (h i e)
   context_here frame (Holds (ControlValue packet)) before rec h i e = among_rest (HoldsContext rec) _ before (h i e)
@@ -225,7 +222,7 @@ module _ (n : ℕ) where
   routed_not number port stream items false h all = (h, tt)
 
   module _ (head : RecordHead) where
-    by_not : (before : List Received) (frame : Frame) (content : Content) → length before + 1 ≢ n → AllByRecursion (IsNotOf n) (told_by head before (record { frame = frame; content = content }))
+    by_not : (before : List Received) (frame : Frame) (content : Content) → length before + 1 ≢ n → AllByRecursion (IsNotOf n) (told_by head before (holding frame content))
     by_not before frame (Larger size) h = (h, tt)
     by_not before frame (NoPacket word) h = (h, tt)
     by_not before frame (Holds (DataValue packet)) h =
@@ -332,51 +329,50 @@ first_behind P [] x ys h = h.0
 first_behind P (y ∷ xs) x ys h = first_behind P xs x ys h.1
 
 module _ (head : RecordHead) (stream : ℕ) (delivery : Delivery) (before later : List Received) (on : is_listed head.routes stream ≡ true) where
-  data_turned : (frame : Frame) (packet : DataPacket) → (let r : Received = record { frame = frame; content = Holds (DataValue packet) } in
-      AllByRecursion (IsReceived head) (before ++ r ∷ later) → IsStreamDelivered head (before ++ r ∷ later) stream delivery → IsFirstArrival stream before r
-      → turned_away head.limits (calls head stream before) (DataCall (buffer_of head frame.datagram)) ≡ None)
+  data_turned : (frame : Frame) (packet : DataPacket) → AllByRecursion (IsReceived head) (before ++ holding frame (Holds (DataValue packet)) ∷ later)
+      → IsStreamDelivered head (before ++ holding frame (Holds (DataValue packet)) ∷ later) stream delivery → IsFirstArrival stream before (holding frame (Holds (DataValue packet)))
+      → turned_away head.limits (calls head stream before) (DataCall (buffer_of head frame.datagram)) ≡ None
   data_turned frame packet contents s f =
-      let r : Received = record { frame = frame; content = Holds (DataValue packet) } in
+      let r = holding frame (Holds (DataValue packet)) in
       let cs = calls head stream before in
       let buf = buffer_of head frame.datagram in
       let own : calls_by head stream r ≡ DataCall buf ∷ [] = ap (λ b. cond b (DataCall buf ∷ []) []) f.of_stream in
       let all : delivery.calls ≡ cs ++ DataCall buf ∷ calls head stream later =
-      s.calls_are ∙ calls-append head stream before (r ∷ later) ∙ ap (λ xs. cs ++ xs ++ calls head stream later) own in
+      s.calls_are ∙ calls-append head stream before (r ∷ later) ∙ ap (λ xs. cs ++ (xs ++ calls head stream later)) own in
       let sent : IsSent s.site.first_packet delivery.site.packets_sent (packet_arriving delivery) = record { rising = s.site.packets.rising; counted = s.site.packets.counted } in
       let given : map (packet_arriving delivery) delivery.packets ≡ data_arrivals cs ++ data_entry buf ∷ data_arrivals (calls head stream later) =
       sym s.delivered.packets_given ∙ ap data_arrivals all ∙ data_arrivals-append cs (DataCall buf ∷ calls head stream later) in
       let fresh : (i : ℕ) → slice_get (data_arrivals cs) i ≢ Some (data_entry buf) = λ i e.
           let a = data_among head stream before buf i e in
-          let other = a.1.0 in
-          let same : other.frame.datagram ≡ frame.datagram = ap (λ (b : Buffer). b.bytes) a.1.1.1.1.1 in
-          let its = at_place (IsReceived head) before a.0 other (front_all (IsReceived head) before (r ∷ later) contents) a.1.1.0 in
+          let other = a.1 in
+          let same : other.frame.datagram ≡ frame.datagram = ap (λ (b : Buffer). b.bytes) a.3.2 in
+          let its = at_place (IsReceived head) before a.0 other (front_all (IsReceived head) before (r ∷ later) contents) a.2 in
           let mine = first_behind (IsReceived head) before r later contents in
-          f.first a.0 other a.1.1.0 (one_content head frame.datagram other.content r.content (subst (λ d. IsContent head d other.content) same its) mine) in
+          f.first a.0 other a.2 (one_content head frame.datagram other.content r.content (subst (λ d. IsContent head d other.content) same its) mine) in
       ap (λ (l : Limits). turned_of (outcome (answer same_buffer l.data_window (data_arrivals cs) (data_entry buf)))) (sym s.limits)
       ∙ fresh_taken s.site.first_packet delivery.site.packets_sent delivery.limits.data_window (packet_arriving delivery) delivery.packets (data_arrivals cs) (data_entry buf)
       (data_arrivals (calls head stream later)) same_buffer sent s.delivered.packets given fresh
 
-  context_turned : (frame : Frame) (rec : ContextRec) → (let r : Received = record { frame = frame; content = Holds (ContextValue rec) } in
-      IsStreamDelivered head (before ++ r ∷ later) stream delivery → IsFirstArrival stream before r
-      → turned_away head.limits (calls head stream before) (ContextCall rec) ≡ None)
+  context_turned : (frame : Frame) (rec : ContextRec) → IsStreamDelivered head (before ++ holding frame (Holds (ContextValue rec)) ∷ later) stream delivery
+      → IsFirstArrival stream before (holding frame (Holds (ContextValue rec))) → turned_away head.limits (calls head stream before) (ContextCall rec) ≡ None
   context_turned frame rec s f =
-      let r : Received = record { frame = frame; content = Holds (ContextValue rec) } in
+      let r = holding frame (Holds (ContextValue rec)) in
       let cs = calls head stream before in
       let own : calls_by head stream r ≡ ContextCall rec ∷ [] = ap (λ b. cond b (ContextCall rec ∷ []) []) f.of_stream in
       let all : delivery.calls ≡ cs ++ ContextCall rec ∷ calls head stream later =
-      s.calls_are ∙ calls-append head stream before (r ∷ later) ∙ ap (λ xs. cs ++ xs ++ calls head stream later) own in
+      s.calls_are ∙ calls-append head stream before (r ∷ later) ∙ ap (λ xs. cs ++ (xs ++ calls head stream later)) own in
       let given : map (context_sent delivery.site) delivery.contexts ≡ context_arrivals cs ++ context_entry rec ∷ context_arrivals (calls head stream later) =
       sym s.delivered.contexts_given ∙ ap context_arrivals all ∙ context_arrivals-append cs (ContextCall rec ∷ calls head stream later) in
       let fresh : (i : ℕ) → slice_get (context_arrivals cs) i ≢ Some (context_entry rec) = λ i e.
           let a = context_among head stream before rec i e in
-          f.first a.0 a.1.0 a.1.1.0 a.1.1.1 in
+          f.first a.0 a.1 a.2 a.3 in
       ap (λ (l : Limits). turned_of (outcome (answer same_context l.context_window (context_arrivals cs) (context_entry rec)))) (sym s.limits)
       ∙ fresh_taken s.site.first_context delivery.site.contexts_sent delivery.limits.context_window (context_sent delivery.site) delivery.contexts (context_arrivals cs) (context_entry rec)
       (context_arrivals (calls head stream later)) same_context s.site.contexts s.delivered.contexts given fresh
 
-  told_not : (frame : Frame) (content : Content) → (let r : Received = record { frame = frame; content = content } in
-      AllByRecursion (IsReceived head) (before ++ r ∷ later) → IsStreamDelivered head (before ++ r ∷ later) stream delivery → IsFirstArrival stream before r
-      → AllByRecursion (IsNotOf (length before + 1)) (told_by head before r))
+  told_not : (frame : Frame) (content : Content) → AllByRecursion (IsReceived head) (before ++ holding frame content ∷ later)
+      → IsStreamDelivered head (before ++ holding frame content ∷ later) stream delivery → IsFirstArrival stream before (holding frame content)
+      → AllByRecursion (IsNotOf (length before + 1)) (told_by head before (holding frame content))
   told_not frame (Larger size) contents s f = absurd (false≢true f.of_stream)
   told_not frame (NoPacket word) contents s f = absurd (false≢true f.of_stream)
   told_not frame (Holds (DataValue packet)) contents s f =

@@ -31,3 +31,4 @@ pub mod ReplayLemmas
 pub mod TrueReleases
 pub mod FirstArrivals
 pub mod TrueTexts
+pub mod ToldOnceLemmas

@@ -16,7 +16,7 @@ use Rattle.sample_binder.specs.Calls.{Call, EndCall, outputs_of}
 use Rattle.sample_binder.specs.Parts.{Part, outs_of, payload_of}
 use Rattle.sample_binder.specs.declared.out.Out.{Out}
 use Rattle.sample_binder.specs.declared.out.Out.TheVariants as out
-use Rattle.sample_binder.specs.declared.run.Run.{Run}
+use Rattle.sample_binder.specs.declared.out.Run.{Run}
 use Rattle.site_truth.specs.Delivered.{Delivery, all_calls}
 use Rattle.site_truth.proofs.OutputLemmas.{outputs_are_true}
 use Rattle.difi_gateway.specs.Contents.{Received}

@@ -63,4 +63,4 @@ done_true status most moves outcome e bytes before left held fit =
     let done = is_done status most outcome.bytes outcome.text moves outcome.cause e in
     let same : outcome.bytes ≡ bytes = all_taken moves.left moves.left_now bytes outcome.bytes left outcome.taken done.at_end in
     let truth = bytes_true most outcome.bytes outcome.text moves done (subst AreBytes (sym same) fit) in
-    (outcome.text, (all_held moves.held moves.held_now before outcome.text held outcome.written, subst (λ bs. IsTrueOf bs outcome.text) same truth))
+    (outcome.text, all_held moves.held moves.held_now before outcome.text held outcome.written, subst (λ bs. IsTrueOf bs outcome.text) same truth)

@@ -18,3 +18,4 @@ pub mod Replayed
 pub mod Replaying
 pub mod StreamDelivered
 pub mod TrueText
+pub mod ToldOnce

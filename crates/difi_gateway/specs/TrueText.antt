@@ -10,7 +10,7 @@ use Rattle.release_form.specs.declared.shown.Shown.{Shown}
 use Rattle.release_form.specs.declared.shown.Shown.TheVariants as shown
 use Rattle.sample_binder.specs.Parts.{Part, payload_of}
 use Rattle.sample_binder.specs.declared.out.Out.{Out}
-use Rattle.sample_binder.specs.declared.run.Run.{Run}
+use Rattle.sample_binder.specs.declared.out.Run.{Run}
 use Rattle.site_truth.specs.Delivered.{Delivery}
 use Rattle.site_truth.specs.Truth.{AreTrue}
 use Rattle.stream_routes.specs.Ports.{is_listed}

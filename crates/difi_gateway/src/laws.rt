@@ -1,11 +1,15 @@
-ghost use Rattle.std.specs.Prelude.{◌≡◌, ◌↔◌, ℕ, ◌+◌, ◌≤◌, Bool, true, false, List, [], ◌∷◌, ◌++◌, length, map, Option};
+ghost use Rattle.std.specs.Prelude.{◌≡◌, ◌↔◌, ℕ, ◌+◌, ◌≤◌, Bool, true, false, List, [], ◌∷◌, ◌++◌, length, map, slice_get, Option, Some};
 ghost use Rattle.std.specs.List.{AllByRecursion, sum_by};
 ghost use Rattle.vrt_time.specs.Time.{TimeStamp};
+ghost use Rattle.vrt_header.specs.Profile.{PacketProfile};
 ghost use Rattle.vrt_fields.specs.Route.{AreRoutes};
 ghost use Rattle.replay_form.specs.FrameFields.{Frame};
 ghost use Rattle.replay_form.specs.declared.record_head.RecordHead.{RecordHead};
+ghost use Rattle.reorder_window.specs.Delivery.{occurs};
 ghost use Rattle.sample_binder.specs.Calls.{EndCall, is_told, outputs_of};
 ghost use Rattle.sample_binder.specs.Parts.{AreCallsOf};
+ghost use Rattle.site_truth.specs.Delivered.{Delivery, IsDelivered};
+ghost use Rattle.site_truth.specs.Site.{IsSite};
 ghost use Rattle.release_form.specs.declared.refusal.Refusal.{Refusal};
 ghost use Rattle.difi_gateway.specs.Calls.{calls};
 ghost use Rattle.difi_gateway.specs.Contents.{Content, IsContent, Received, IsReceived, frame_of, AreReceived};
@@ -15,7 +19,8 @@ ghost use Rattle.difi_gateway.specs.Told.{RefusedItem, is_listed, runs_told, tol
 ghost use Rattle.record_run.specs.Outcome.{IsPart};
 ghost use Rattle.difi_gateway.specs.Replayed.{BeginsEach, replay_of};
 ghost use Rattle.difi_gateway.specs.Releases.{Release, copies, bound_samples, uncertain_samples, raw_packets, refused_frames, versions, part_of, all_told, out_of, AreRecordsOf, IsPartOf, IsOutOf};
-ghost use Rattle.difi_gateway.specs.TrueText.{AreTrueOf, IsTrueText};
+ghost use Rattle.difi_gateway.specs.ToldOnce.{IsToldOnce, IsTrueRelease};
+ghost use Rattle.difi_gateway.specs.TrueText.{AreTrueOf, AreTrueReleases, IsTrueText, releases_for};
 ghost use Rattle.difi_gateway.specs.Written.{IsWritableItem, CanBeWritten};
 
 /// A law that a proof can cite. A datagram holds one thing at most: it is larger than a packet may
@@ -220,4 +225,27 @@ pub fn releases_are_true()
     ensures text { (head : RecordHead) (second : Bool) (frames : List Frame) (received : List Received) (text : List ℕ)
         → AreRoutes second head.routes → AreReceived head frames received → IsOutOf head frames text
         → IsTrueText head received text }
+{}
+
+/// A law that a proof can cite. Where the releases of a stream are true for one of its ports, each of them
+/// is true by itself: a packet that arrived, whole and with the cause why, or samples of one, with their
+/// capture time, and either the fields of the context in force at each, which arrived or is healed, or
+/// a cause for each.
+#[inline]
+pub fn each_record_is_true()
+    ensures { (delivery : Delivery) (stream port : ℕ) (releases : List Release)
+        → AreTrueReleases delivery stream port releases
+        → (i : ℕ) (release : Release) → slice_get (releases_for stream port releases) i ≡ Some release
+        → IsTrueRelease delivery stream port release }
+{}
+
+/// A law that a proof can cite. Where the releases of a stream are true for one of its ports, each data
+/// packet that arrived is told whole in one of them and in no other, or each of its samples is.
+#[inline]
+pub fn each_sample_is_told_once()
+    ensures { (profile : PacketProfile) (most_words : ℕ) (delivery : Delivery)
+        → IsSite profile most_words delivery.site → IsDelivered delivery
+        → (stream port : ℕ) (releases : List Release) → AreTrueReleases delivery stream port releases
+        → (number : ℕ) → occurs number delivery.packets ≡ true
+        → IsToldOnce delivery (releases_for stream port releases) number }
 {}

@@ -203,6 +203,45 @@ fn one_behind() -> [u32; 85] {
     header
 }
 
+// The one sample of a packet at this second, bound to a context: with the number lost before it, and its
+// picoseconds since 1970.
+fn bound_one(second: u32, lost: u32, picos: [u32; 2], context: &[u32; 27]) -> [u32; 34] {
+    let mut words = [0; 34];
+    words[..14].copy_from_slice(&[
+        1, 0x80, 1, 9, lost, second, 0, 0, 0, 1, 0, 0x5C, picos[0], picos[1],
+    ]);
+    words[14..33].copy_from_slice(&context[8..]);
+    words[33] = 0x0001_0002;
+    words
+}
+
+#[test]
+fn fifteen_lost_in_a_row_are_told(rt: HostRuntime) -> Result<(), Fail> {
+    let alloc = rt.alloc();
+    // Of packets that are sent a second apart the numbers 0, 17 and 16 arrive.
+    let before = context(START - 1, 0);
+    let frames: [&[u32]; 5] = [
+        &before,
+        &data(START, 0),
+        &data(START + 17, 1),
+        &data(START + 16, 0),
+        &context(START + 100, 1),
+    ];
+    let counts = Counts {
+        frames: 5,
+        bound: 3,
+        ..NONE
+    };
+    let releases: [&[u32]; 4] = [
+        &bound_one(START, 0, [0x283D_4103, 0x9410_0000], &before),
+        &bound_one(START + 16, 15, [0x283D_4F90, 0xDE61_0000], &before),
+        &bound_one(START + 17, 0, [0x283D_5079, 0xB306_1000], &before),
+        &end(counts),
+    ];
+    assert!(rt; replays(&rt, alloc, &one_behind(), &frames, &releases)?);
+    Ok(())
+}
+
 #[test]
 fn a_packet_that_its_window_turns_away_is_refused(rt: HostRuntime) -> Result<(), Fail> {
     let alloc = rt.alloc();

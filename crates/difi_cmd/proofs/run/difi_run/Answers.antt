@@ -22,3 +22,17 @@ pub returns-in-Replay-clause-complete : goal.returns-in-Replay-clause-complete
 returns-in-Replay-clause-complete g c = λ line asks no_read no_write.
     let same : line ≡ lines.Replay c.in-Replay.max_bytes = one_line c.args.words.now line c.in-Ok.line asks c.in-Ok.ensures.found ∙ c.in-Replay.is in
     rw same (c.replay_run.ensures.complete no_read no_write)
+
+pub returns-in-List-clause-truth : goal.returns-in-List-clause-truth
+returns-in-List-clause-truth g c = λ done most asks.
+    let same : lines.Replay most ≡ lines.List c.in-List.options = one_line c.args.words.now (lines.Replay most) c.in-Ok.line asks c.in-Ok.ensures.found ∙ c.in-List.is in
+    absurd (cc)
+
+pub returns-in-Migrate-clause-truth : goal.returns-in-Migrate-clause-truth
+returns-in-Migrate-clause-truth g c = λ done most asks.
+    let same : lines.Replay most ≡ lines.Migrate c.in-Migrate.max_bytes =
+    one_line c.args.words.now (lines.Replay most) c.in-Ok.line asks c.in-Ok.ensures.found ∙ c.in-Migrate.is in
+    absurd (cc)
+
+pub returns-in-Replay-clause-truth : goal.returns-in-Replay-clause-truth
+returns-in-Replay-clause-truth g c = λ done most asks. c.replay_run.ensures.truth done
