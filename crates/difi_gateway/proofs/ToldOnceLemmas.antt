@@ -206,7 +206,7 @@ module _ (profile : PacketProfile) (most : ℕ) (delivery : Delivery) (s : IsSit
         ]
       ]
 
-  told_once : (stream port : ℕ) (releases : List Release) → AreTrueReleases delivery stream port releases → (n : ℕ) → occurs n delivery.packets ≡ true
+  pub told_once : (stream port : ℕ) (releases : List Release) → AreTrueReleases delivery stream port releases → (n : ℕ) → occurs n delivery.packets ≡ true
       → IsToldOnce delivery (releases_for stream port releases) n
   told_once stream port releases t n arrived =
       let truth = t.are_true in
