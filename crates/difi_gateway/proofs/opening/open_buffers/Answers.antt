@@ -11,4 +11,4 @@ have_room max_words (suc number) = (refl, have_room max_words number)
 
 pub returns-clause-rooms : goal.returns-clause-rooms
 returns-clause-rooms c =
-    subst (AllByRecursion (HasRoom c.args.max_words)) (sym c.open_many.ensures.buffers) (have_room c.args.max_words c.args.number)
+    subst (AllByRecursion (HasRoom c.args.max_words)) (sym c.in_ok-buffers.ensures.buffers) (have_room c.args.max_words c.args.number)
