@@ -1,5 +1,5 @@
 -- A packet of a delivery that arrives for the first time is refused by no release.
-use Rattle.std.proofs.Common.{◌≡◌, ◌≢◌, ◌⊎◌, ℕ, zero, suc, ◌+◌, ◌<◌, ◌≤◌, ◌==◌, Bool, true, false, cond, List, [], ◌∷◌, ◌++◌, length, map, slice_get, Option, Some, None, Result, Ok, Err, IsOk, refl, sym, ap, ◌∙◌, subst, inl, inr, arith, append_assoc, length-append}
+use Rattle.std.proofs.Common.{◌≡◌, ◌≢◌, ◌⊎◌, ℕ, zero, suc, ◌+◌, ◌<◌, ◌≤◌, ◌==◌, Bool, true, false, cond, List, [], ◌∷◌, ◌++◌, length, map, slice_get, Option, Some, None, Result, Ok, Err, IsOk, refl, sym, ap, ◌∙◌, subst, inl, inr, arith, length-append}
 use Rattle.std.proofs.lemmas.Bool.{false≢true}
 use Rattle.std.proofs.lemmas.Option.{same_Some, none-some}
 use Rattle.std.specs.List.{AllByRecursion, flat_map}
@@ -33,8 +33,7 @@ use Rattle.site_truth.proofs.ListLemmas.{occurs-cases}
 use Rattle.difi_gateway.specs.Contents.{Content, Larger, NoPacket, Holds, IsContent, Received, IsReceived}
 use Rattle.difi_gateway.specs.Calls.{buffer_of, calls, calls_by}
 use Rattle.difi_gateway.specs.Told.{Item, RefusedItem, RunItem, VersionItem, runs_from, runs_told, same_buffer, same_context, turned_of, turned_away, bound, called, told, told_by, told_from, told_at_end}
-use Rattle.difi_gateway.specs.Releases.{Release, all_told, copies, copies_of, counts_of, out_of}
-use Rattle.difi_gateway.specs.Isolation.{is_of_stream}
+use Rattle.difi_gateway.specs.Releases.{Release, all_told, copies, copies_of, out_of}
 use Rattle.difi_gateway.specs.StreamDelivered.{IsFirstArrival, IsStreamDelivered}
 use Rattle.difi_gateway.specs.TrueText.{AreFirstTaken, IsNotRefused, Refuses}
 use Rattle.difi_gateway.proofs.Growth.{told_from-append}
@@ -343,12 +342,12 @@ module _ (head : RecordHead) (stream : ℕ) (delivery : Delivery) (before later 
       let given : map (packet_arriving delivery) delivery.packets ≡ data_arrivals cs ++ data_entry buf ∷ data_arrivals (calls head stream later) =
       sym s.delivered.packets_given ∙ ap data_arrivals all ∙ data_arrivals-append cs (DataCall buf ∷ calls head stream later) in
       let fresh : (i : ℕ) → slice_get (data_arrivals cs) i ≢ Some (data_entry buf) = λ i e.
-          let a = data_among head stream before buf i e in
-          let other = a.1 in
-          let same : other.frame.datagram ≡ frame.datagram = ap (λ (b : Buffer). b.bytes) a.3.2 in
-          let its = at_place (IsReceived head) before a.0 other (front_all (IsReceived head) before (r ∷ later) contents) a.2 in
-          let mine = first_behind (IsReceived head) before r later contents in
-          f.first a.0 other a.2 (one_content head frame.datagram other.content r.content (subst (λ d. IsContent head d other.content) same its) mine) in
+      let a = data_among head stream before buf i e in
+      let other = a.1 in
+      let same : other.frame.datagram ≡ frame.datagram = ap (λ (b : Buffer). b.bytes) a.3.2 in
+      let its = at_place (IsReceived head) before a.0 other (front_all (IsReceived head) before (r ∷ later) contents) a.2 in
+      let mine = first_behind (IsReceived head) before r later contents in
+      f.first a.0 other a.2 (one_content head frame.datagram other.content r.content (subst (λ d. IsContent head d other.content) same its) mine) in
       ap (λ (l : Limits). turned_of (outcome (answer same_buffer l.data_window (data_arrivals cs) (data_entry buf)))) (sym s.limits)
       ∙ fresh_taken s.site.first_packet delivery.site.packets_sent delivery.limits.data_window (packet_arriving delivery) delivery.packets (data_arrivals cs) (data_entry buf)
       (data_arrivals (calls head stream later)) same_buffer sent s.delivered.packets given fresh
@@ -364,8 +363,8 @@ module _ (head : RecordHead) (stream : ℕ) (delivery : Delivery) (before later 
       let given : map (context_sent delivery.site) delivery.contexts ≡ context_arrivals cs ++ context_entry rec ∷ context_arrivals (calls head stream later) =
       sym s.delivered.contexts_given ∙ ap context_arrivals all ∙ context_arrivals-append cs (ContextCall rec ∷ calls head stream later) in
       let fresh : (i : ℕ) → slice_get (context_arrivals cs) i ≢ Some (context_entry rec) = λ i e.
-          let a = context_among head stream before rec i e in
-          f.first a.0 a.1 a.2 a.3 in
+      let a = context_among head stream before rec i e in
+      f.first a.0 a.1 a.2 a.3 in
       ap (λ (l : Limits). turned_of (outcome (answer same_context l.context_window (context_arrivals cs) (context_entry rec)))) (sym s.limits)
       ∙ fresh_taken s.site.first_context delivery.site.contexts_sent delivery.limits.context_window (context_sent delivery.site) delivery.contexts (context_arrivals cs) (context_entry rec)
       (context_arrivals (calls head stream later)) same_context s.site.contexts s.delivered.contexts given fresh

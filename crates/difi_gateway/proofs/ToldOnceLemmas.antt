@@ -14,9 +14,9 @@ use Rattle.sample_binder.specs.declared.out.Run.TheVariants.{Bound, Uncertain, R
 use Rattle.site_truth.specs.Cause.{Left}
 use Rattle.site_truth.specs.Delivered.{Delivery, IsDelivered, AreInOrder}
 use Rattle.site_truth.specs.Site.{IsSite, packet_moment, packet_stamp}
-use Rattle.site_truth.specs.Truth.{AreTrue, AreTrueRuns, IsTruePart, IsTrueRaw, IsTrueCut, IsTrueRun, Sampled}
+use Rattle.site_truth.specs.Truth.{AreTrueRuns, IsTruePart, IsTrueRaw, IsTrueCut, IsTrueRun, Sampled}
 use Rattle.difi_gateway.specs.Releases.{Release}
-use Rattle.difi_gateway.specs.ToldOnce.{AreTrueSamples, IsToldOnce, IsTrueRecord, IsTrueRelease, is_run_with, number_telling, tells_sample, tells_whole}
+use Rattle.difi_gateway.specs.ToldOnce.{IsToldOnce, IsTrueRelease, is_run_with, number_telling, tells_sample, tells_whole}
 use Rattle.difi_gateway.specs.TrueText.{AreTrueReleases, release_of, releases_for, releases_of_part, releases_of_runs}
 
 -- ---- the runs of one packet
@@ -217,15 +217,15 @@ module _ (profile : PacketProfile) (most : ℕ) (delivery : Delivery) (s : IsSit
       let is = truth.each at.0 part mine.1 in
       let apart : (i : ℕ) (p : Part) → slice_get truth.parts i ≡ Some p → i ≢ at.0 → moment_of (packet_stamp delivery.site (get_or truth.packets i 0)) ≢ packet_moment delivery.site n =
       λ i p e other same.
-          let lt : i < length truth.packets = omega (arith, inside truth.parts i p e, truth.once) in
-          moments_differ truth.packets truth.packets_arrived i at.0 lt at.1 other (same ∙ sym (ap (packet_moment delivery.site) at.2)) in
+      let lt : i < length truth.packets = omega (arith, inside truth.parts i p e, truth.once) in
+      moments_differ truth.packets truth.packets_arrived i at.0 lt at.1 other (same ∙ sym (ap (packet_moment delivery.site) at.2)) in
       let only : (test : Run → Bool) → ((run : Run) → moment_of (run_stamp run) ≢ packet_moment delivery.site n → test run ≡ false)
-          → number_telling test (releases_for stream port releases) ≡ passing test part.runs =
+      → number_telling test (releases_for stream port releases) ≡ passing test part.runs =
       λ test fails.
-          ap (number_telling test) t.releases_are
-          ∙ one_passes test stream port truth.parts at.0 part mine.1
-          (λ i p e other. others_fail test (packet_moment delivery.site n) (packet_stamp delivery.site (get_or truth.packets i 0)) fails (apart i p e other) p.runs
-          (part_stamped delivery truth.contexts truth.packets i p (truth.each i p e))) in
+      ap (number_telling test) t.releases_are
+      ∙ one_passes test stream port truth.parts at.0 part mine.1
+      (λ i p e other. others_fail test (packet_moment delivery.site n) (packet_stamp delivery.site (get_or truth.packets i 0)) fails (apart i p e other) p.runs
+      (part_stamped delivery truth.contexts truth.packets i p (truth.each i p e))) in
       let whole = only (tells_whole (packet_moment delivery.site n)) (other_whole (packet_moment delivery.site n)) in
       let sample = λ (m : ℕ). only (tells_sample (packet_moment delivery.site n) m) (other_sample (packet_moment delivery.site n) m) in
       by_part n at.2 part is.left (releases_for stream port releases) whole sample is.runs
@@ -315,16 +315,20 @@ record_true delivery stream port releases t i release e =
     let is = truth.each p.place p.part p.is_there in
     let n = get_or truth.packets p.place 0 in
     let lt : p.place < length truth.packets = omega (arith, inside truth.parts p.place p.part p.is_there, truth.once) in
-    let r = p.of_run in
-    (r.lost, r.run, ap (λ (x : Release). x.shown) r.is, record {
-      packet = n;
-      arrived = truth.packets_arrived.inside p.place lt;
-      payload_is = ap (λ (x : Release). x.payload) r.is ∙ ap (λ (b : _). payload_of b.bytes) is.buf;
-      left = is.left;
-      is_true = elim is.runs [
-        | inl raw ↦ inl (raw_at delivery is.left n p.part.runs r.at r.run raw r.is_there)
-        | inr cut ↦
-            let one = samples_at delivery is.left n cut.context cut.number 0 p.part.runs r.at r.run cut.runs_are r.is_there in
-            inr (record { context = cut.context; in_force = cut.in_force; number = cut.number; divides = cut.divides; from = one.0; is_true = one.1 })
-      ];
-    })
+    let r = p.of_run in (
+      r.lost,
+      r.run,
+      ap (λ (x : Release). x.shown) r.is,
+      record {
+        packet = n;
+        arrived = truth.packets_arrived.inside p.place lt;
+        payload_is = ap (λ (x : Release). x.payload) r.is ∙ ap (λ (b : _). payload_of b.bytes) is.buf;
+        left = is.left;
+        is_true = elim is.runs [
+          | inl raw ↦ inl (raw_at delivery is.left n p.part.runs r.at r.run raw r.is_there)
+          | inr cut ↦
+              let one = samples_at delivery is.left n cut.context cut.number 0 p.part.runs r.at r.run cut.runs_are r.is_there in
+              inr (record { context = cut.context; in_force = cut.in_force; number = cut.number; divides = cut.divides; from = one.0; is_true = one.1 })
+        ];
+      },
+    )

@@ -14,17 +14,16 @@ use Rattle.stream_routes.specs.Ports.{is_listed, ports_in, ports_of}
 use Rattle.stream_routes.proofs.PortLaws.{absent, no_ports, route_of_listed, route_ports, route_there, routes_of_form_2}
 use Rattle.sample_binder.specs.Calls.{Call, EndCall, outputs_of}
 use Rattle.sample_binder.specs.Parts.{Part, outs_of, payload_of}
-use Rattle.sample_binder.specs.declared.out.Out.{Out}
 use Rattle.sample_binder.specs.declared.out.Out.TheVariants as out
 use Rattle.sample_binder.specs.declared.out.Run.{Run}
-use Rattle.site_truth.specs.Delivered.{Delivery, all_calls}
+use Rattle.site_truth.specs.Delivered.{all_calls}
 use Rattle.site_truth.proofs.OutputLemmas.{outputs_are_true}
 use Rattle.difi_gateway.specs.Contents.{Received}
 use Rattle.difi_gateway.specs.Calls.{calls}
 use Rattle.difi_gateway.specs.Told.{Item, RefusedItem, RunItem, VersionItem, runs_from, runs_told}
 use Rattle.difi_gateway.specs.Releases.{Release, all_told, copies, copies_of, counts_of, out_of}
 use Rattle.difi_gateway.specs.Isolation.{is_run_of, runs_of_stream}
-use Rattle.difi_gateway.specs.StreamDelivered.{IsPortOf, IsStreamDelivered}
+use Rattle.difi_gateway.specs.StreamDelivered.{IsPortOf}
 use Rattle.difi_gateway.specs.TrueText.{AreTrueOf, is_run_for, release_of, releases_for, releases_of_part, releases_of_runs}
 use Rattle.difi_gateway.proofs.StreamRuns.{true_or_false, equal_to, itself, parts_begin, all_runs}
 

@@ -1,5 +1,5 @@
 -- Each of the buffers that were opened together has the room.
-use Rattle.std.proofs.Common.{◌≡◌, ℕ, zero, suc, ◌*◌, replicate, subst, sym, refl}
+use Rattle.std.proofs.Common.{ℕ, zero, suc, ◌*◌, replicate, subst, sym, refl}
 use Rattle.std.specs.List.{AllByRecursion}
 use Rattle.vrt_words.specs.Buffer.{fresh}
 use Rattle.difi_gateway.specs.State.{HasRoom}
