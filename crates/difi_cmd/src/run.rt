@@ -68,8 +68,8 @@ pub fn difi_run<R: Threads + Sync, S: Source + Send, K: Sink + Send, G: Gate + S
           writes_now = K.faults sink.new;
         })) }
 
-    // Where a replay is done, what was written of each stream of which the record holds a delivery is true
-    // of what its site sent, for each of its ports.
+    // Where a replay is done, what was written of each stream of which the record holds a delivery
+    // is true of what its site sent, for each of its ports.
     ensures truth { result ≡ Status.Done → (most : ℕ) → Asks words.now (Line.Replay most)
         → IsTrueReplay
         (record {

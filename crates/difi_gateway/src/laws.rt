@@ -215,37 +215,41 @@ pub fn forms_have_the_same_releases()
         → IsOutOf (record head { form = form }) frames bytes ↔ IsOutOf head frames bytes }
 {}
 
-/// A law that a proof can cite. Where the data packets and the contexts of a stream among received frames
-/// are a delivery of what a site sends, the releases of the stream for each of its ports are true, and so
-/// is the text of all releases.
+/// A law that a proof can cite. Where the data packets and the contexts of a stream among received
+/// frames are a delivery of what a site sends, the releases of the stream for each of its ports are
+/// true, and so is the text of all releases.
 #[inline]
 pub fn releases_are_true()
-    ensures releases { (head : RecordHead) (second : Bool) (received : List Received) → AreRoutes second head.routes
-        → AreTrueOf head received (out_of head received) }
-    ensures text { (head : RecordHead) (second : Bool) (frames : List Frame) (received : List Received) (text : List ℕ)
-        → AreRoutes second head.routes → AreReceived head frames received → IsOutOf head frames text
+    ensures releases { (head : RecordHead) (second : Bool) (received : List Received)
+        → AreRoutes second head.routes → AreTrueOf head received (out_of head received) }
+    ensures text { (head : RecordHead) (second : Bool) (frames : List Frame)
+        (received : List Received) (text : List ℕ) → AreRoutes second head.routes
+        → AreReceived head frames received → IsOutOf head frames text
         → IsTrueText head received text }
 {}
 
-/// A law that a proof can cite. Where the releases of a stream are true for one of its ports, each of them
-/// is true by itself: a packet that arrived, whole and with the cause why, or samples of one, with their
-/// capture time, and either the fields of the context in force at each, which arrived or is healed, or
-/// a cause for each.
+/// A law that a proof can cite. Where the releases of a stream are true for one of its ports, each
+/// of them is true by itself: a packet that arrived, whole and with the cause why, or samples of
+/// one, with their capture time, and either the fields of the context in force at each, which
+/// arrived or is healed, or a cause for each.
 #[inline]
 pub fn each_record_is_true()
     ensures { (delivery : Delivery) (stream port : ℕ) (releases : List Release)
         → AreTrueReleases delivery stream port releases
-        → (i : ℕ) (release : Release) → slice_get (releases_for stream port releases) i ≡ Some release
+        → (i : ℕ) (release : Release)
+        → slice_get (releases_for stream port releases) i ≡ Some release
         → IsTrueRelease delivery stream port release }
 {}
 
-/// A law that a proof can cite. Where the releases of a stream are true for one of its ports, each data
-/// packet that arrived is told whole in one of them and in no other, or each of its samples is.
+/// A law that a proof can cite. Where the releases of a stream are true for one of its ports, each
+/// data packet that arrived is told whole in one of them and in no other, or each of its samples
+/// is.
 #[inline]
 pub fn each_sample_is_told_once()
     ensures { (profile : PacketProfile) (most_words : ℕ) (delivery : Delivery)
         → IsSite profile most_words delivery.site → IsDelivered delivery
-        → (stream port : ℕ) (releases : List Release) → AreTrueReleases delivery stream port releases
+        → (stream port : ℕ) (releases : List Release)
+        → AreTrueReleases delivery stream port releases
         → (number : ℕ) → occurs number delivery.packets ≡ true
         → IsToldOnce delivery (releases_for stream port releases) number }
 {}

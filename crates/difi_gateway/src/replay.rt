@@ -37,8 +37,8 @@ pub fn replay_run<R: Threads + Sync, S: Source + Send, K: Sink + Send, G: Gate +
           writes = K.faults sink.old;
           writes_now = K.faults sink.new;
         }) }
-    // Where it is done, what was written of each stream of which the record holds a delivery is true,
-    // for each of its ports.
+    // Where it is done, what was written of each stream of which the record holds a delivery is
+    // true, for each of its ports.
     ensures truth { result ≡ Status.Done → IsTrueReplay
         (record {
           left = S.left source.old;

@@ -203,8 +203,8 @@ fn one_behind() -> [u32; 85] {
     header
 }
 
-// The one sample of a packet at this second, bound to a context: with the number lost before it, and its
-// picoseconds since 1970.
+// The one sample of a packet at this second, bound to a context: with the number lost before it, and
+// its picoseconds since 1970.
 fn bound_one(second: u32, lost: u32, picos: [u32; 2], context: &[u32; 27]) -> [u32; 34] {
     let mut words = [0; 34];
     words[..14].copy_from_slice(&[
