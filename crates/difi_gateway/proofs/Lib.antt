@@ -32,3 +32,4 @@ pub mod TrueReleases
 pub mod FirstArrivals
 pub mod TrueTexts
 pub mod ToldOnceLemmas
+pub mod BoundLemmas

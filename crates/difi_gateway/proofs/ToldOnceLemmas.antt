@@ -52,7 +52,7 @@ module _ (test : Run → Bool) (stream port : ℕ) where
   none_passes (p ∷ parts) h = omega (arith, parts_count p parts, h 0 p refl, none_passes parts (λ i q e. h (suc i) q e))
 
   -- of the packets one alone has runs that pass
-  one_passes : (parts : List Part) (place : ℕ) (part : Part) → slice_get parts place ≡ Some part
+  pub one_passes : (parts : List Part) (place : ℕ) (part : Part) → slice_get parts place ≡ Some part
       → ((i : ℕ) (p : Part) → slice_get parts i ≡ Some p → i ≢ place → passing test p.runs ≡ 0)
       → number_telling test (flat_map (releases_of_part stream port) parts) ≡ passing test part.runs
   one_passes [] place part e h = absurd (none-some _ e)
@@ -82,7 +82,7 @@ not_equal a b h = grind (arith, nat_tests)
 equal : (a b : ℕ) → a ≡ b → (a == b) ≡ true
 equal a b e = grind (arith, nat_tests)
 
-within : (a b x m k : ℕ) → a ≡ b → x ≤ m → m < x + k → (a == b && nat_le x m && nat_lt m (x + k)) ≡ true
+pub within : (a b x m k : ℕ) → a ≡ b → x ≤ m → m < x + k → (a == b && nat_le x m && nat_lt m (x + k)) ≡ true
 within a b x m k e f g = grind (arith, nat_tests)
 
 too_early : (a b x m k : ℕ) → m < x → (a == b && nat_le x m && nat_lt m (x + k)) ≡ false
@@ -92,7 +92,7 @@ too_late : (a b x m k : ℕ) → x + k ≤ m → (a == b && nat_le x m && nat_lt
 too_late a b x m k h = grind (arith, nat_tests)
 
 -- a run that has another stamp tells nothing of the packet
-other_sample : (moment m : ℕ) (run : Run) → moment_of (run_stamp run) ≢ moment → tells_sample moment m run ≡ false
+pub other_sample : (moment m : ℕ) (run : Run) → moment_of (run_stamp run) ≢ moment → tells_sample moment m run ≡ false
 other_sample moment m (Bound stamp first number at fields bits) h = ap (λ b. b && nat_le first m && nat_lt m (first + number)) (not_equal (moment_of stamp) moment h)
 other_sample moment m (Uncertain reason stamp first number at bits) h = ap (λ b. b && nat_le first m && nat_lt m (first + number)) (not_equal (moment_of stamp) moment h)
 other_sample moment m (Raw reason stamp pad) h = refl
@@ -106,7 +106,7 @@ all_fail : (test : Run → Bool) (runs : List Run) → AllByRecursion (λ run. t
 all_fail test [] h = refl
 all_fail test (run ∷ runs) h = ap (λ b. length (cond b (run ∷ filter test runs) (filter test runs))) h.0 ∙ all_fail test runs h.1
 
-others_fail : (test : Run → Bool) (moment : ℕ) (stamp : TimeStamp) → ((run : Run) → moment_of (run_stamp run) ≢ moment → test run ≡ false) → moment_of stamp ≢ moment
+pub others_fail : (test : Run → Bool) (moment : ℕ) (stamp : TimeStamp) → ((run : Run) → moment_of (run_stamp run) ≢ moment → test run ≡ false) → moment_of stamp ≢ moment
     → (runs : List Run) → AreStamped stamp runs → passing test runs ≡ 0
 others_fail test moment stamp h apart [] all = refl
 others_fail test moment stamp h apart (run ∷ runs) all =
@@ -142,12 +142,12 @@ module _ (delivery : Delivery) (left : Left) (sampled : Sampled) where
       within (moment_of stamp) moment first m number (ap moment_of h.0.stamp_is) (omega (arith, le, h.0.first_is)) (omega (arith, lt, h.0.first_is))
   tells_here from m (Raw reason stamp pad) h le lt = absurd h
 
-  not_before : (from m : ℕ) (run : Run) → IsTrueRun delivery left sampled from run → m < from → tells_sample moment m run ≡ false
+  pub not_before : (from m : ℕ) (run : Run) → IsTrueRun delivery left sampled from run → m < from → tells_sample moment m run ≡ false
   not_before from m (Bound stamp first number at fields bits) h lt = too_early (moment_of stamp) moment first m number (omega (arith, lt, h.0.first_is))
   not_before from m (Uncertain reason stamp first number at bits) h lt = too_early (moment_of stamp) moment first m number (omega (arith, lt, h.0.first_is))
   not_before from m (Raw reason stamp pad) h lt = absurd h
 
-  not_behind : (from m : ℕ) (run : Run) → IsTrueRun delivery left sampled from run → from + samples_of run ≤ m → tells_sample moment m run ≡ false
+  pub not_behind : (from m : ℕ) (run : Run) → IsTrueRun delivery left sampled from run → from + samples_of run ≤ m → tells_sample moment m run ≡ false
   not_behind from m (Bound stamp first number at fields bits) h le = too_late (moment_of stamp) moment first m number (omega (arith, le, h.0.first_is))
   not_behind from m (Uncertain reason stamp first number at bits) h le = too_late (moment_of stamp) moment first m number (omega (arith, le, h.0.first_is))
   not_behind from m (Raw reason stamp pad) h le = absurd h
@@ -179,13 +179,13 @@ there [] i lt = absurd (omega (arith, lt))
 there (x ∷ xs) zero lt = (x, refl)
 there (x ∷ xs) (suc i) lt = there xs i (omega (arith, lt))
 
-inside : {X : Type 0} (xs : List X) (i : ℕ) (x : X) → slice_get xs i ≡ Some x → i < length xs
+pub inside : {X : Type 0} (xs : List X) (i : ℕ) (x : X) → slice_get xs i ≡ Some x → i < length xs
 inside [] i x e = absurd (none-some _ e)
 inside (y ∷ xs) zero x e = omega arith
 inside (y ∷ xs) (suc i) x e = let lt = inside xs i x e in omega (arith, lt)
 
 module _ (delivery : Delivery) (contexts packets : List ℕ) where
-  part_stamped : (j : ℕ) (part : Part) → IsTruePart delivery contexts packets j part → AreStamped (packet_stamp delivery.site (get_or packets j 0)) part.runs
+  pub part_stamped : (j : ℕ) (part : Part) → IsTruePart delivery contexts packets j part → AreStamped (packet_stamp delivery.site (get_or packets j 0)) part.runs
   part_stamped j part h = elim h.runs [
     | inl raw ↦ subst (AreStamped (packet_stamp delivery.site (get_or packets j 0))) (sym raw.runs_are) (refl, tt)
     | inr cut ↦ runs_stamped delivery h.left (record { packet = get_or packets j 0; context = cut.context; number = cut.number }) 0 part.runs cut.runs_are
@@ -193,7 +193,7 @@ module _ (delivery : Delivery) (contexts packets : List ℕ) where
 
 module _ (profile : PacketProfile) (most : ℕ) (delivery : Delivery) (s : IsSite profile most delivery.site) (d : IsDelivered delivery) where
   -- packets at different places have different stamps
-  moments_differ : (packets : List ℕ) → AreInOrder delivery.packets packets → (i j : ℕ) → i < length packets → j < length packets → i ≢ j
+  pub moments_differ : (packets : List ℕ) → AreInOrder delivery.packets packets → (i j : ℕ) → i < length packets → j < length packets → i ≢ j
       → packet_moment delivery.site (get_or packets i 0) ≢ packet_moment delivery.site (get_or packets j 0)
   moments_differ packets o i j a b apart same =
       let sent_i = d.packets.sent (get_or packets i 0) (o.inside i a) in

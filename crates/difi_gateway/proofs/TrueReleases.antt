@@ -16,14 +16,14 @@ use Rattle.sample_binder.specs.Calls.{Call, EndCall, outputs_of}
 use Rattle.sample_binder.specs.Parts.{Part, outs_of, payload_of}
 use Rattle.sample_binder.specs.declared.out.Out.TheVariants as out
 use Rattle.sample_binder.specs.declared.out.Run.{Run}
-use Rattle.site_truth.specs.Delivered.{all_calls}
+use Rattle.site_truth.specs.Delivered.{Delivery, all_calls}
 use Rattle.site_truth.proofs.OutputLemmas.{outputs_are_true}
 use Rattle.difi_gateway.specs.Contents.{Received}
 use Rattle.difi_gateway.specs.Calls.{calls}
 use Rattle.difi_gateway.specs.Told.{Item, RefusedItem, RunItem, VersionItem, runs_from, runs_told}
 use Rattle.difi_gateway.specs.Releases.{Release, all_told, copies, copies_of, counts_of, out_of}
 use Rattle.difi_gateway.specs.Isolation.{is_run_of, runs_of_stream}
-use Rattle.difi_gateway.specs.StreamDelivered.{IsPortOf}
+use Rattle.difi_gateway.specs.StreamDelivered.{IsPortOf, IsStreamDelivered}
 use Rattle.difi_gateway.specs.TrueText.{AreTrueOf, is_run_for, release_of, releases_for, releases_of_part, releases_of_runs}
 use Rattle.difi_gateway.proofs.StreamRuns.{true_or_false, equal_to, itself, parts_begin, all_runs}
 
@@ -188,3 +188,10 @@ releases_true head second received routes stream port delivery p s =
           ∙ ap (flat_map (told_for port)) (all_runs head second stream received routes listed ∙ ap (runs_told stream) (same ∙ truth.outs_are))
           ∙ parts_told stream port truth.parts;
     }
+
+-- they are those of the outputs of all calls
+pub told_outs : (head : RecordHead) (second : Bool) (received : List Received) (routes : AreRoutes second head.routes) (stream port : ℕ) (delivery : Delivery)
+    (p : IsPortOf head.routes stream port) (s : IsStreamDelivered head received stream delivery)
+    → (releases_true head second received routes stream port delivery p s).outs ≡ outputs_of delivery.limits (all_calls delivery)
+unfolding releases_true
+told_outs head second received routes stream port delivery p s = refl

@@ -45,7 +45,13 @@ tells_sample moment m (Bound stamp first number at fields bits) = moment_of stam
 tells_sample moment m (Uncertain reason stamp first number at bits) = moment_of stamp == moment && nat_le first m && nat_lt m (first + number)
 tells_sample moment m (Raw reason stamp pad) = false
 
--- or the whole of it
+-- and as bound
+abbrev pub binds_sample : ℕ → ℕ → Run → Bool
+binds_sample moment m (Bound stamp first number at fields bits) = moment_of stamp == moment && nat_le first m && nat_lt m (first + number)
+binds_sample moment m (Uncertain reason stamp first number at bits) = false
+binds_sample moment m (Raw reason stamp pad) = false
+
+-- or it tells the whole of it
 abbrev pub tells_whole : ℕ → Run → Bool
 tells_whole moment (Bound stamp first number at fields bits) = false
 tells_whole moment (Uncertain reason stamp first number at bits) = false

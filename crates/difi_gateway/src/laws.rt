@@ -9,7 +9,8 @@ ghost use Rattle.reorder_window.specs.Delivery.{occurs};
 ghost use Rattle.sample_binder.specs.Calls.{EndCall, is_told, outputs_of};
 ghost use Rattle.sample_binder.specs.Parts.{AreCallsOf};
 ghost use Rattle.site_truth.specs.Delivered.{Delivery, IsDelivered};
-ghost use Rattle.site_truth.specs.Site.{IsSite};
+ghost use Rattle.site_truth.specs.Consequences.{IsUnlost, IsWithin};
+ghost use Rattle.site_truth.specs.Site.{IsSite, packet_moment};
 ghost use Rattle.release_form.specs.declared.refusal.Refusal.{Refusal};
 ghost use Rattle.difi_gateway.specs.Calls.{calls};
 ghost use Rattle.difi_gateway.specs.Contents.{Content, IsContent, Received, IsReceived, frame_of, AreReceived};
@@ -19,7 +20,8 @@ ghost use Rattle.difi_gateway.specs.Told.{RefusedItem, is_listed, runs_told, tol
 ghost use Rattle.record_run.specs.Outcome.{IsPart};
 ghost use Rattle.difi_gateway.specs.Replayed.{BeginsEach, replay_of};
 ghost use Rattle.difi_gateway.specs.Releases.{Release, copies, bound_samples, uncertain_samples, raw_packets, refused_frames, versions, part_of, all_told, out_of, AreRecordsOf, IsPartOf, IsOutOf};
-ghost use Rattle.difi_gateway.specs.ToldOnce.{IsToldOnce, IsTrueRelease};
+ghost use Rattle.difi_gateway.specs.StreamDelivered.{IsPortOf, IsStreamDelivered};
+ghost use Rattle.difi_gateway.specs.ToldOnce.{IsToldOnce, IsTrueRelease, binds_sample, number_telling};
 ghost use Rattle.difi_gateway.specs.TrueText.{AreTrueOf, AreTrueReleases, IsTrueText, releases_for};
 ghost use Rattle.difi_gateway.specs.Written.{IsWritableItem, CanBeWritten};
 
@@ -252,4 +254,19 @@ pub fn each_sample_is_told_once()
         → AreTrueReleases delivery stream port releases
         → (number : ℕ) → occurs number delivery.packets ≡ true
         → IsToldOnce delivery (releases_for stream port releases) number }
+{}
+
+/// A law that a proof can cite. Where nothing is lost that a site sends on a stream, and as many
+/// contexts may be kept and as many data packets may wait as are sent, each sample is bound in one
+/// release for each port that is captured before the last context, of a packet stamped not before
+/// the first.
+#[inline]
+pub fn samples_are_bound_where_nothing_is_lost()
+    ensures { (head : RecordHead) (second : Bool) (received : List Received)
+        → AreRoutes second head.routes → (stream port : ℕ) (delivery : Delivery)
+        → IsPortOf head.routes stream port → IsStreamDelivered head received stream delivery
+        → IsUnlost delivery
+        → (packet context number sample : ℕ) → IsWithin delivery packet context number sample
+        → number_telling (binds_sample (packet_moment delivery.site packet) sample)
+        (releases_for stream port (out_of head received)) ≡ 1 }
 {}

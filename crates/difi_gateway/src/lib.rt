@@ -27,7 +27,8 @@ pub use crate::laws::{
     calls_are_of_packets, counts_are_at_most_bytes, datagrams_hold_one_thing, each_record_is_true,
     each_sample_is_told_once, forms_have_the_same_releases, frames_have_one_text,
     more_bytes_append, more_frames_append, refused_frames_change_no_run, releases_are_true,
-    releases_can_be_written, runs_are_of_outputs, streams_are_kept_apart,
+    releases_can_be_written, runs_are_of_outputs, samples_are_bound_where_nothing_is_lost,
+    streams_are_kept_apart,
 };
 pub use crate::replay::replay_run;
 pub use record_run::{Options, Status};
