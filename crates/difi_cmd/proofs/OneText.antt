@@ -1,5 +1,5 @@
 -- Bytes have one text for each listing.
-use Rattle.std.proofs.Common.{◌≡◌, ℕ, inl, inr, List, [], ◌++◌, sym, ap, ◌∙◌, subst}
+use Rattle.std.proofs.Common.{◌≡◌, ℕ, inl, inr, List, ◌++◌, sym, ap, ◌∙◌, subst}
 use Rattle.replay_form.specs.FrameFields.{Frame}
 use Rattle.replay_form.specs.declared.record_head.RecordHead.{RecordHead}
 use Rattle.replay_form.proofs.VerdictLaws.{one_standing, not_headless, record_stands}
