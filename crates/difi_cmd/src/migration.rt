@@ -30,9 +30,15 @@ impl Model for Migration {
 
     ghost Value = { Migrating };
 
-    ghost view = { λ it. record { started = it.started; owed = it.header.items; frames = it.frames; ended = it.ended } };
+    ghost view = { λ it. record {
+      started = it.started;
+      owed = it.header.items;
+      frames = it.frames;
+      ended = it.ended;
+    } };
 
-    ghost invariant = { λ it. HasRoom it.started it.header.items it.routes.items (vec_capacity it.routes) };
+    ghost invariant = { λ it.
+        HasRoom it.started it.header.items it.routes.items (vec_capacity it.routes) };
 }
 
 impl Migration {

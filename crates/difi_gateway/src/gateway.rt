@@ -65,14 +65,20 @@ impl Gateway {
             → StandsFor self.old head received false given
             → (content : Content) × IsContent head bytes.now content
             × StandsFor self.new head (received
-            ++ record { frame = record { stamp = moment; port = port; datagram = bytes.now }; content = content } ∷ []) false given }
+            ++ record {
+              frame = record { stamp = moment; port = port; datagram = bytes.now };
+              content = content;
+            } ∷ []) false given }
 
         // Whatever the frame is, the releases of each stream are those of the stream's own frames.
         ensures apart { (head : RecordHead) (received : List Received) (given : ℕ)
             → StandsFor self.old head received false given
             → (content : Content) → IsContent head bytes.now content → (stream : ℕ)
             → IsApart head stream (received
-            ++ record { frame = record { stamp = moment; port = port; datagram = bytes.now }; content = content } ∷ []) }
+            ++ record {
+              frame = record { stamp = moment; port = port; datagram = bytes.now };
+              content = content;
+            } ∷ []) }
         ensures running { is_ended self.new.stage ≡ false }
         ensures taken { self.new.taken ≡ self.old.taken + 1 + length bytes.now }
     {
